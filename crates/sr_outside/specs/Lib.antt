@@ -1,0 +1,4 @@
+pub mod Counts
+pub mod Loading
+pub mod Writing
+pub mod Fakes
