@@ -3,6 +3,7 @@ ghost use Rattle.std.specs.Io.KnownBytes.{Appends};
 ghost use Rattle.sr_outside.specs.Counts.{Rose};
 ghost use Rattle.sr_outside.specs.Writing.{AppendsPart};
 
+use std::alloc::AllocError;
 use thiserror::Error;
 
 /// Why a sink did not take all bytes.
@@ -14,6 +15,17 @@ pub enum WriteRefusal {
     /// Want of memory. The sink is as before.
     #[error("out of memory")]
     Memory,
+}
+
+impl From<AllocError> for WriteRefusal {
+    ghost use Rattle.std.specs.Prelude.{◌≡◌};
+    ghost use Rattle.sr_outside.specs.declared.sink.WriteRefusal.TheVariants.{Memory};
+
+    ghost from_gives = { λ _ refusal. refusal ≡ Memory };
+
+    fn from(_: AllocError) -> WriteRefusal {
+        WriteRefusal::Memory
+    }
 }
 
 /// What takes bytes.

@@ -1,0 +1,60 @@
+-- What the top call answers, against the run of the command.
+use Rattle.std.specs.Prelude.{◌≡◌, ℕ, List, [], ◌∷◌, ◌++◌, take, Option, Some, Result, codes, ◌⊎◌}
+use Rattle.sr_outside.specs.declared.loader.Loaded.{Loaded}
+use Rattle.sr_outside.specs.declared.sink.WriteRefusal.{WriteRefusal}
+use Rattle.sr_command.specs.declared.status.Status.{Status}
+use Rattle.sr_command.specs.Status.{code_of}
+use Rattle.sr_command.specs.Reaching.{RanOut, Reaches}
+use Rattle.sr_command.specs.Writes.{Write, err, Streams, Gains, IsCut, IsStart}
+use Rattle.sr_command.specs.Runs.{Ending, Runs}
+
+-- The loader gave these answers in this call, by what it remembers before and after: none, or one, the latest.
+abbrev pub Gave : Option (List ℕ × Loaded) → Option (List ℕ × Loaded) → List (List ℕ × Loaded) → Type 0
+Gave before after [] = after ≡ before
+Gave before after (answer ∷ []) = after ≡ Some answer
+Gave before after (answer ∷ another ∷ more) = ⊥
+
+-- a first part of a line on the errors
+abbrev pub part_of_line : ℕ → List ℕ → Write
+part_of_line n text = err (take n (text ++ 0x0A ∷ []))
+
+-- A run of these words is come to, with the answers that the loader gave; or memory ran out before anything was written.
+abbrev pub ReachesRun : List (List ℕ) → Option (List ℕ × Loaded) → Option (List ℕ × Loaded) → Result Status WriteRefusal → Streams → Streams → Type 0
+ReachesRun words before after result old new = ((answers : List (List ℕ × Loaded)) × Gave before after answers × Reaches (Runs words answers) result old new) ⊎ RanOut result old new
+
+module _ (words : List (List ℕ)) (before after : Option (List ℕ × Loaded)) where
+  -- a run of these words with the answers that the loader gave
+  pub record IsRun : Type 0 where
+    pub answers : List (List ℕ × Loaded)
+    pub gave : Gave before after answers
+    pub ending : Ending
+    pub runs : Runs words answers ending
+
+  -- The run came to its end: the status is the run's, and the streams gained exactly its writes.
+  pub record Completes (status : ℕ) (old new : Streams) : Type 0 where
+    pub run : IsRun
+    pub ended : status ≡ code_of run.ending.status
+    pub wrote : Gains old new run.ending.writes
+
+  -- A sink failed: the streams gained the first writes of the run whole and a first part of the next, and then a first
+  -- part of the line `write failed`.
+  pub record BreaksOff (old new : Streams) : Type 0 where
+    pub run : IsRun
+    pub cut : List Write
+    pub is_cut : IsCut cut run.ending.writes
+    pub shown : ℕ
+    pub wrote : Gains old new (cut ++ part_of_line shown (codes "write failed") ∷ [])
+
+  -- Memory ran out within the run: the streams gained its first writes whole, and then a first part of the line
+  -- `memory`.
+  pub record Starves (old new : Streams) : Type 0 where
+    pub run : IsRun
+    pub start : List Write
+    pub is_start : IsStart start run.ending.writes
+    pub shown : ℕ
+    pub wrote : Gains old new (start ++ part_of_line shown (codes "memory") ∷ [])
+
+-- Memory ran out before anything was written: the streams gained a first part of the line `memory` alone.
+pub record StarvesAtOnce (old new : Streams) : Type 0 where
+  pub shown : ℕ
+  pub wrote : Gains old new (part_of_line shown (codes "memory") ∷ [])

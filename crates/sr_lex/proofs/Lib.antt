@@ -1,0 +1,15 @@
+pub mod Truth
+pub mod Places
+pub mod Comments
+pub mod Pieces
+pub mod GapLaws
+pub mod Hex
+pub mod StringsSound
+pub mod StringsComplete
+pub mod GapSteps
+pub mod LiteralSteps
+pub mod TextSteps
+pub mod Punctuators
+pub mod PunctuatorLaws
+pub mod RowLaws
+pub mod TextLaws

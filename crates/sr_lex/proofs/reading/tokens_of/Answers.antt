@@ -1,0 +1,70 @@
+use Rattle.std.proofs.Common.{◌≡◌, ◌+◌, ◌-◌, ◌≤◌, ◌≢◌, ◌++◌, [], ◌∷◌, ℕ, List, drop, length, arith, rules, sym, ap, ◌∙◌, subst}
+use Rattle.std.specs.Prelude.{IsTrue, ◌==◌, Some, None, Ok}
+use Rattle.std.proofs.lemmas.Grind.{common_steps}
+use Rattle.std.proofs.lemmas.List.{take_rest, length-drop, drop-drop, append-nil}
+use Rattle.sr_lex.specs.Scan.{gap, row, token_of, lexed}
+use Rattle.sr_lex.specs.Closed.{NoClose}
+use Rattle.sr_lex.specs.declared.token.Token.{Token}
+use Rattle.sr_lex.proofs.reading.tokens_of.Goals as goal
+use Rattle.sr_lex.proofs.GapSteps.{closed_on}
+use Rattle.sr_lex.proofs.TextSteps.{behind, text_ends, text_fails, text_goes}
+
+pub returns-then-from-text-clause-tokens : goal.returns-then-from-text-clause-tokens
+returns-then-from-text-clause-tokens c =
+    let text = c.args.text.now in
+    let at = c.loop-turn.at in
+    let us = drop at text in
+    let g = c.gap-gap.result in
+    let left = length text - c.loop-turn._turn in
+    let later = length text - (c.loop-turn._turn + 1) in
+    let is : gap (length us) (at == 0) us ≡ g = rw take_rest at (sym c.gap-gap.ensures.value) in
+    let over : length (drop g.units us) ≡ 0 = omega (arith, length-drop g.units us, length-drop at text, c.if-from-text.true) in
+    sym c.loop-turn.invariant.told
+    ∙ ap (behind c.loop-turn.found.items) (text_ends left later at us g (omega arith) is over)
+    ∙ ap Ok (append-nil c.loop-turn.found.items)
+
+pub returns-in_default-clause-refused : goal.returns-in_default-clause-refused
+returns-in_default-clause-refused c =
+    let text = c.args.text.now in
+    let at = c.loop-turn.at in
+    let us = drop at text in
+    let g = c.gap-gap.result in
+    let left = length text - c.loop-turn._turn in
+    let later = length text - (c.loop-turn._turn + 1) in
+    let is : gap (length us) (at == 0) us ≡ g = rw take_rest at (sym c.gap-gap.ensures.value) in
+    let within : g.units ≤ length us = rw take_rest at c.gap-gap.ensures.within in
+    let more : length (drop g.units us) ≢ 0 = λ h. c.if-from-text.false (omega (arith, length-drop g.units us, length-drop at text, c.loop-turn.invariant.within)) in
+    let read : row (drop (at + g.units) text) ≡ None = rw take_rest at (sym c.row_at_front.ensures.value ∙ c.in_default.is) in
+    let none : row (drop g.units us) ≡ None = ap row (drop-drop g.units at text) ∙ read in
+    sym c.loop-turn.invariant.told
+    ∙ ap (behind c.loop-turn.found.items) (text_fails left later at us g (omega arith) is more none)
+
+pub loop-turn-preserved : goal.loop-turn-preserved
+loop-turn-preserved c =
+    let text = c.args.text.now in
+    let at = c.loop-turn.at in
+    let us = drop at text in
+    let g = c.gap-gap.result in
+    let r = c.in-Some.row in
+    let from = at + g.units in
+    let ts = c.loop-turn.found.items in
+    let left = length text - c.loop-turn._turn in
+    let later = length text - (c.loop-turn._turn + 1) in
+    let is : gap (length us) (at == 0) us ≡ g = rw take_rest at (sym c.gap-gap.ensures.value) in
+    let within : g.units ≤ length us = rw take_rest at c.gap-gap.ensures.within in
+    let more : length (drop g.units us) ≢ 0 = λ h. c.if-from-text.false (omega (arith, length-drop g.units us, length-drop at text, c.loop-turn.invariant.within)) in
+    let read : row (drop from text) ≡ Some r = rw take_rest at (sym c.in-Some.ensures.value) in
+    let some : row (drop g.units us) ≡ Some r = ap row (drop-drop g.units at text) ∙ read in
+    let pushed : c.push.new.self.items ≡ ts ++ (token_of r from g.line ∷ []) = search (rules, c.in_ok-push.ensures) in
+    let there : drop (from + r.units) text ≡ drop r.units (drop g.units us) =
+    sym (drop-drop r.units from text) ∙ ap (drop r.units) (sym (drop-drop g.units at text)) in
+    let on : behind c.push.new.self.items (lexed later (from + r.units) (drop (from + r.units) text)) ≡ behind ts (lexed left at us) =
+    ap (λ (xs : List Token). behind xs (lexed later (from + r.units) (drop (from + r.units) text))) pushed
+    ∙ ap (λ (xs : List ℕ). behind (ts ++ (token_of r from g.line ∷ [])) (lexed later (from + r.units) xs)) there
+    ∙ sym (text_goes left later at us ts g r (omega arith) is more some) in
+    let closed : IsTrue c.gap-gap.new.unclosed → NoClose (drop 2 (drop g.units us)) = rw take_rest at c.gap-gap.ensures.unclosed in
+    record {
+      told = on ∙ c.loop-turn.invariant.told;
+      within = first_of (search rules, grind (arith, common_steps, length-drop));
+      unclosed = λ h. closed_on from r.units text (subst (λ (xs : List ℕ). NoClose (drop 2 xs)) (drop-drop g.units at text) (closed h));
+    }

@@ -1,0 +1,7 @@
+pub mod Units
+pub mod Strings
+pub mod Tokens
+pub mod Laws
+pub mod Answers
+pub mod Scan
+pub mod Closed

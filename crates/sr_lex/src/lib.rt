@@ -1,0 +1,25 @@
+//! Tokens of a text (ECMA-262 12).
+#![tactic(auto)]
+
+/// The characters of string literals.
+mod characters;
+/// White space, line ends and comments.
+mod gaps;
+/// String literals.
+mod literals;
+/// The laws of the definitions.
+pub mod laws;
+/// The tokens of a text.
+mod reading;
+/// The token at the front of some units.
+mod rows;
+/// A token, and why a text has none at a place.
+mod token;
+/// Code units by what tokens ask of them.
+mod units;
+
+pub use reading::{lex, string_value, token_text};
+pub use token::{LexRefusal, Token, TokenKind};
+
+#[cfg(test)]
+mod tests;

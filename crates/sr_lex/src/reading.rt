@@ -1,0 +1,84 @@
+ghost use Rattle.std.specs.Prelude.{◌≡◌, ◌<◌, ◌≤◌, Ok, length, All, IfOk, IfErr};
+ghost use Rattle.sr_lex.specs.Tokens.{Tokens, IsTokenOf, token_units};
+ghost use Rattle.sr_lex.specs.Answers.{Refuses, Gives};
+ghost use Rattle.sr_lex.specs.Strings.{StringLiteral, IsLiteral};
+ghost use Rattle.sr_lex.specs.Scan as spec;
+ghost use Rattle.sr_lex.specs.declared.token.TokenKind.TheVariants.{Text};
+
+use crate::gaps::gap;
+use crate::literals::literal_value;
+use crate::rows::row_at_front;
+use crate::token::{LexRefusal, Token};
+use sr_text::{Str, TextRefusal};
+use std::alloc::{AllocError, Global};
+
+/// The tokens of these units, or the first place at which no token fits.
+fn tokens_of(alloc: Global, text: &[u16]) -> Result<Vec<Token>, LexRefusal>
+    ensures tokens { IfOk result (λ v. spec.lexed (length text.now) 0 text.now ≡ Ok v.items) }
+    ensures refused { IfErr result (λ refusal. Gives (spec.lexed (length text.now) 0 text.now) refusal) }
+{
+    let mut found = Vec::new(alloc);
+    let mut at = 0;
+    let mut unclosed = false;
+    for _turn in 0..text.len() {
+        let gap = gap(&text[at..], at == 0, &mut unclosed);
+        let from = at + gap.units;
+        if from == text.len() {
+            return Ok(found);
+        }
+        let Some(row) = row_at_front(&text[from..]) else {
+            return Err(LexRefusal::Syntax(from));
+        };
+        at = from + row.units;
+        found.push(Token {
+            kind: row.kind,
+            from,
+            to: at,
+            line_before: gap.line,
+        })?;
+    }
+    Ok(found)
+}
+
+/// The tokens of the text, from the left (ECMA-262 12). `Syntax` comes exactly where the text has none, with the first
+/// place at which no token fits, and `Memory` where memory runs out.
+pub fn lex(alloc: Global, text: &Str) -> Result<Vec<Token>, LexRefusal>
+    ensures tokens { IfOk result (λ v. Tokens text.now v.items) }
+    ensures each { IfOk result (λ v. All (IsTokenOf text.now) v.items) }
+    ensures refused { IfErr result (λ refusal. Refuses text.now refusal) }
+{
+    tokens_of(alloc, text.units())
+}
+
+/// The code units of a token.
+pub fn token_text<'a>(text: &'a Str, token: &Token) -> &'a [u16]
+    requires { IsTokenOf text.now token.now }
+    ensures { result.now ≡ token_units text.now token.now }
+{
+    &text.units()[token.from..token.to]
+}
+
+/// The value of a string literal.
+fn value_of(alloc: Global, literal: &[u16]) -> Result<Vec<u16>, AllocError>
+    requires some { 0 < length literal.now }
+    requires literal { IsLiteral literal.now }
+    ensures value { IfOk result (λ v. StringLiteral literal.now v.items) }
+    ensures within { IfOk result (λ v. length v.items ≤ length literal.now) }
+{
+    literal_value(alloc, &literal[1..], literal[0])
+}
+
+/// The string value of a string literal (ECMA-262 12.9.4.2).
+pub fn string_value(alloc: Global, text: &Str, token: &Token) -> Result<Str, AllocError>
+    requires token { IsTokenOf text.now token.now }
+    requires literal { token.now.kind ≡ Text }
+    ensures { IfOk result (λ s. StringLiteral (token_units text.now token.now) s) }
+{
+    let value = value_of(alloc, &text.units()[token.from..token.to])?;
+    match Str::of_units(alloc, &value) {
+        Ok(value) => Ok(value),
+        Err(TextRefusal::Memory) => Err(AllocError),
+        Err(TextRefusal::TooLong) => unreachable!(),
+        Err(TextRefusal::NotUtf8(_)) => unreachable!(),
+    }
+}

@@ -1,0 +1,4 @@
+pub mod Scripts
+pub mod Reading
+pub mod Running
+pub mod Advancing

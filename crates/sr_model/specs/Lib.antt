@@ -1,0 +1,9 @@
+pub mod Values
+pub mod Outcomes
+pub mod Events
+pub mod Ports
+pub mod Realm
+pub mod Tasks
+pub mod Scripts
+pub mod World
+pub mod Laws

@@ -1,0 +1,4 @@
+pub mod Powers
+pub mod Digits
+pub mod Decimals
+pub mod Literals

@@ -1,0 +1,4 @@
+use Rattle.sr_num.proofs.power.+natural_power.Given as goal
+
+abbrev pub decreases-natural_power : goal.decreases-natural_power
+decreases-natural_power l = l.exponent

@@ -1,0 +1,3 @@
+pub mod Path
+pub mod Reference
+pub mod Steps

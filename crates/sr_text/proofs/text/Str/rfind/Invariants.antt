@@ -1,0 +1,6 @@
+use Rattle.std.proofs.Common.{ℕ, ◌≤◌}
+use Rattle.sr_text.specs.Search.{StandsAt}
+use Rattle.sr_text.proofs.text.Str.rfind.Given as goal
+
+abbrev pub invariant-loop-at : goal.invariant-loop-at
+invariant-loop-at l = (place : ℕ) → l.at ≤ place → place ≤ l.from → ¬ (StandsAt l.whole l.part place)

@@ -1,0 +1,11 @@
+mod Tests
+mod Replaying
+mod Alone
+mod Counting
+mod LiveCounting
+mod SoloCounting
+mod Larger
+mod LiveLarger
+mod SoloLarger
+mod Alike
+mod Kinship

@@ -1,0 +1,97 @@
+-- What the laws say.
+use Rattle.std.specs.Prelude.{ℕ, ◌+◌, ◌≤◌, ◌<◌, ◌≡◌, List, Bool, true, false, All}
+use Rattle.sr_model.specs.Values.{Path, child, Kin}
+use Rattle.sr_model.specs.Events.{Event}
+use Rattle.sr_model.specs.Tasks.{Language}
+use Rattle.sr_model.specs.World.{Link, Pending, World}
+use Rattle.sr_worlds.specs.Evaluation.{Ran, Done, Over}
+use Rattle.sr_worlds.specs.Live.{Why, Stopped, Steps, Open, Broken, Short, LiveEnd, LiveRan}
+use Rattle.sr_worlds.specs.Run.{realm_of, tape_of}
+use Rattle.sr_worlds.specs.Solo.{SoloEnd, CutOff, Halted, Bound, Unfit, Spent}
+use Rattle.sr_worlds.specs.Replay.{Verdict, Fits, Misfit, Bounded, Unknown, replay}
+
+-- with every large enough count of rows, the replay of the tape has this verdict
+abbrev pub Replays : {T R : Type 0} → Language T R → ℕ → Path → List Event → Verdict R → Type 0
+Replays l bound p tape v = (least : ℕ) × ((n : ℕ) → least ≤ n → replay l bound n p tape ≡ v)
+
+-- it is no end of a run where answers or uses of rows were missing
+abbrev pub Ends : Why → Type 0
+Ends (Stopped x) = Unit {0}
+Ends (Steps x) = Unit {0}
+Ends Broken = Unit {0}
+Ends Open = ⊥
+Ends Short = ⊥
+
+-- a run has come to its end: nothing is left to do, or it stopped
+abbrev pub Ended : {R : Type 0} → LiveRan R → Type 0
+Ended (Done w o m) = Unit {0}
+Ended (Over w e) = Ends e.why
+
+-- realm p, as the run leaves it, is what the replay of its tape gives
+abbrev pub Isolated : {T R : Type 0} → Language T R → ℕ → Path → LiveRan R → Type 0
+Isolated l bound p r = Ended r → Replays l bound p (tape_of p r) (Fits (realm_of p r))
+
+-- two runs that leave realm p the same tape leave it the same
+abbrev pub Alike : {R : Type 0} → Path → LiveRan R → LiveRan R → Type 0
+Alike p r r' = Ended r → Ended r' → tape_of p r ≡ tape_of p r' → realm_of p r ≡ realm_of p r'
+
+-- where it ended, fewer uses of rows are left
+abbrev pub Leaves : {S E : Type 0} → ℕ → Ran S E → Type 0
+Leaves m (Done s x k) = k < m
+Leaves m (Over s e) = Unit {0}
+
+-- A is claimed where the test does not hold
+abbrev pub Unless : Bool → Type 0 → Type 0
+Unless true A = Unit {0}
+Unless false A = A
+
+-- with j more uses of rows it comes to the same, and j more are left; unless it had given up
+abbrev pub Lasts : {S E : Type 0} → (E → Bool) → ℕ → Ran S E → Ran S E → Type 0
+Lasts gave_up j (Done s x k) r = r ≡ Done s x (k + j)
+Lasts gave_up j (Over s e) r = Unless (gave_up e) (r ≡ Over s e)
+
+-- a run gives up where its rows are used up
+abbrev pub is_short : Why → Bool
+is_short (Stopped x) = false
+is_short (Steps x) = false
+is_short Open = false
+is_short Broken = false
+is_short Short = true
+
+-- whether an end is that of a run which gave up
+abbrev pub short : LiveEnd → Bool
+short e = is_short e.why
+
+-- a replay gives up where its rows are used up; where its bound may grow, also at the bound
+abbrev pub gives_up : Bool → SoloEnd → Bool
+gives_up grows (Bound x) = grows
+gives_up grows Spent = true
+gives_up grows CutOff = false
+gives_up grows Halted = false
+gives_up grows Unfit = false
+
+-- a verdict that more rows do not change
+abbrev pub Known : {R : Type 0} → Verdict R → Type 0
+Known (Fits r) = Unit {0}
+Known (Misfit i) = Unit {0}
+Known (Bounded r x) = Unit {0}
+Known Unknown = ⊥
+
+-- a verdict that a larger bound does not change either
+abbrev pub Certain : {R : Type 0} → Verdict R → Type 0
+Certain (Fits r) = Unit {0}
+Certain (Misfit i) = Unit {0}
+Certain (Bounded r x) = ⊥
+Certain Unknown = ⊥
+
+-- a link row joins a realm and its direct parent
+abbrev pub IsKin : Link → Type 0
+IsKin row = Kin row.realm row.owner
+
+-- a pending row joins an import of a realm and one of its direct child
+abbrev pub IsOfChild : Pending → Type 0
+IsOfChild row = (k : ℕ) × (row.child ≡ child row.parent k)
+
+-- the rows outside the realms join a realm and its direct parent, and no others
+abbrev pub Joined : {R : Type 0} → World R → Type 0
+Joined w = All IsKin w.links × All IsOfChild w.pending

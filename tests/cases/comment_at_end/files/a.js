@@ -1,0 +1,1 @@
+print("a"); // no line end

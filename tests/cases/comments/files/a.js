@@ -1,0 +1,4 @@
+// one
+print/* two */("a"/* three
+four */);// five
+/**/print("/* kept */");/* // */

@@ -1,0 +1,2 @@
+#!/usr/bin/env shadowrealm
+print("a");

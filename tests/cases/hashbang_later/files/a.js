@@ -1,0 +1,3 @@
+
+#! late
+print("a");

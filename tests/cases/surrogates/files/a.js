@@ -1,0 +1,1 @@
+print("\ud800");print("\ud83d\ude00");print("\udc00\ud800x");
