@@ -9,3 +9,4 @@ mod LiveLarger
 mod SoloLarger
 mod Alike
 mod Kinship
+mod PortSteps

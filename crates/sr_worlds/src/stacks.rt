@@ -7,6 +7,8 @@ ghost use Rattle.sr_worlds.specs.Live.{live};
 ghost use Rattle.sr_worlds.specs.Solo.{solo};
 ghost use Rattle.sr_worlds.specs.Stacks.{StepGives, StepHalts, StepPart, StepAnswered, StepEnds};
 ghost use Rattle.sr_worlds.specs.LiveStacks.{live_owed, LiveAsks, LiveBegins};
+ghost use Rattle.sr_worlds.specs.LivePorts.{LivePays, LiveMeetsBound, LiveEnters, LiveTooDeep, LiveLoads};
+ghost use Rattle.sr_worlds.specs.SoloPorts.{SoloTakesCut, SoloPays, SoloMeetsBound, SoloEnters, SoloTooDeep, SoloLoads};
 ghost use Rattle.sr_worlds.specs.SoloStacks.{solo_owed, SoloAsks, SoloReads, SoloReplied, SoloBegins};
 
 /// The steps of a run: the task on top ends, stops the run, has a part, uses a port that is answered at once or ends the
@@ -33,4 +35,23 @@ pub fn steps_of_a_replay<T, R>()
     ensures reads { (l : Language T R) (bound : ℕ) → SoloReads l bound }
     ensures replied { (l : Language T R) (bound : ℕ) → SoloReplied l bound }
     ensures begins { (l : Language T R) (bound : ℕ) → SoloBegins l bound }
+{}
+
+/// What charges, entries and loads do in a run. The other ports that are answered at once test nothing.
+pub fn ports_of_a_run<T, R>()
+    ensures pays { (l : Language T R) (bound : ℕ) → LivePays l bound }
+    ensures meets_bound { (l : Language T R) (bound : ℕ) → LiveMeetsBound l bound }
+    ensures enters { (l : Language T R) (bound : ℕ) → LiveEnters l bound }
+    ensures too_deep { (l : Language T R) (bound : ℕ) → LiveTooDeep l bound }
+    ensures loads { (l : Language T R) (bound : ℕ) → LiveLoads l bound }
+{}
+
+/// What they do in a replay.
+pub fn ports_of_a_replay<T, R>()
+    ensures takes_cut { (l : Language T R) (bound : ℕ) → SoloTakesCut l bound }
+    ensures pays { (l : Language T R) (bound : ℕ) → SoloPays l bound }
+    ensures meets_bound { (l : Language T R) (bound : ℕ) → SoloMeetsBound l bound }
+    ensures enters { (l : Language T R) (bound : ℕ) → SoloEnters l bound }
+    ensures too_deep { (l : Language T R) (bound : ℕ) → SoloTooDeep l bound }
+    ensures loads { (l : Language T R) (bound : ℕ) → SoloLoads l bound }
 {}
