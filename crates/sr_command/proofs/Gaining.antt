@@ -3,6 +3,7 @@ use Rattle.std.proofs.Common.{◌≡◌, ℕ, ◌++◌, List, [], ◌∷◌, len
 use Rattle.std.proofs.lemmas.List.{take_all}
 use Rattle.std.specs.Io.KnownBytes.{Appends}
 use Rattle.sr_outside.specs.Writing.{AppendsPart}
+use Rattle.sr_outside.proofs.Pieces.{appends_both}
 use Rattle.sr_outside.specs.declared.sink.WriteRefusal.{WriteRefusal}
 use Rattle.sr_outside.specs.declared.sink.WriteRefusal.TheVariants.{Failed, Memory}
 use Rattle.sr_command.specs.declared.status.Status.{Status}
@@ -18,13 +19,6 @@ appends_nothing (Some xs) (Some ys) e = let same : ys ≡ xs = cc in same ∙ sy
 
 pub nothing_gained : (s : Streams) → Gains s s []
 nothing_gained s = record { out_gained = appends_nothing _ _ refl; err_gained = appends_nothing _ _ refl }
-
--- what is gained in two steps is gained in one
-pub appends_both : (old mid new : Option (List ℕ)) (xs ys : List ℕ) → Appends old mid xs → Appends mid new ys → Appends old new (xs ++ ys)
-appends_both None mid new xs ys first second = tt
-appends_both (Some o) None new xs ys first second = absurd first
-appends_both (Some o) (Some m) None xs ys first second = absurd second
-appends_both (Some o) (Some m) (Some n) xs ys first second = second ∙ ap (λ bytes. bytes ++ ys) first ∙ append_assoc o xs ys
 
 pub out_bytes-append : (xs ys : List Write) → out_bytes (xs ++ ys) ≡ out_bytes xs ++ out_bytes ys
 out_bytes-append [] ys = refl

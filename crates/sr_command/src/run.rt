@@ -1,5 +1,5 @@
 ghost use Rattle.std.specs.Prelude.{◌≡◌, ◌≤◌, ◌⊎◌, List, ℕ, Option, None, Some, Ok, IfOk, IfSome, IsErrOf};
-ghost use Rattle.sr_outside.specs.Counts.{Rose};
+ghost use Rattle.sr_outside.specs.Counts.{Rose, Raised};
 ghost use Rattle.sr_outside.specs.Loading.{IsHeld};
 ghost use Rattle.sr_outside.specs.declared.loader.Loaded.{Loaded};
 ghost use Rattle.sr_outside.specs.declared.loader.Loaded.TheVariants.{Text};
@@ -116,6 +116,7 @@ pub(crate) fn run_file<L: Loader, O: Sink, E: Sink>(
     ensures reaches { ((answer : Loaded) × (L.last loader.new ≡ Some (name.now, answer))
         × Reaches (RunsFile name.now answer) result (streams (O.written out.old) (E.written err.old)) (streams (O.written out.new) (E.written err.new)))
         ⊎ RanOut result (streams (O.written out.old) (E.written err.old)) (streams (O.written out.new) (E.written err.new)) }
+    ensures asked_once { Raised (L.calls loader.old) (L.calls loader.new) }
     ensures honest { L.faults loader.new ≡ L.faults loader.old → IfSome (L.last loader.new) (λ last. IsHeld (L.held loader.old) name.now (Ok last.1)) }
     ensures read_cause { result ≡ Ok Status.ReadFailed → Rose (L.faults loader.old) (L.faults loader.new) }
     ensures cause { IsErrOf result WriteRefusal.Failed → Rose (O.faults out.old) (O.faults out.new) ⊎ Rose (E.faults err.old) (E.faults err.new) }

@@ -1,5 +1,5 @@
 ghost use Rattle.std.specs.Prelude.{◌≡◌, ◌≢◌, ◌⊎◌, ◌≤◌, None, Some, Ok, IfSome, IsErrOf, map, string_bytes};
-ghost use Rattle.sr_outside.specs.Counts.{Rose};
+ghost use Rattle.sr_outside.specs.Counts.{Rose, Raised};
 ghost use Rattle.sr_outside.specs.Loading.{IsHeld};
 ghost use Rattle.sr_command.specs.Words.{asked};
 ghost use Rattle.sr_command.specs.Writes.{streams};
@@ -45,7 +45,8 @@ pub fn shadow_run<L: Loader, O: Sink, E: Sink>(
     ensures starves { result ≡ 8 → Starves (map string_bytes words.now.items) (L.last loader.old) (L.last loader.new)
         (streams (O.written out.old) (E.written err.old)) (streams (O.written out.new) (E.written err.new))
         ⊎ StarvesAtOnce (streams (O.written out.old) (E.written err.old)) (streams (O.written out.new) (E.written err.new)) }
-    ensures unasked { asked (map string_bytes words.now.items) ≡ None → L.last loader.new ≡ L.last loader.old }
+    ensures unasked { asked (map string_bytes words.now.items) ≡ None → loader.new ≡ loader.old }
+    ensures asked_once { asked (map string_bytes words.now.items) ≢ None → Raised (L.calls loader.old) (L.calls loader.new) }
     ensures honest { IfSome (asked (map string_bytes words.now.items)) (λ name. L.faults loader.new ≡ L.faults loader.old
         → IfSome (L.last loader.new) (λ last. IsHeld (L.held loader.old) name (Ok last.1))) }
     ensures read_cause { result ≡ 6 → Rose (L.faults loader.old) (L.faults loader.new) }
@@ -74,7 +75,8 @@ fn run_words<L: Loader, O: Sink, E: Sink>(
 ) -> Result<Status, WriteRefusal>
     ensures reaches { ReachesRun (map string_bytes words.now) (L.last loader.old) (L.last loader.new) result
         (streams (O.written out.old) (E.written err.old)) (streams (O.written out.new) (E.written err.new)) }
-    ensures unasked { asked (map string_bytes words.now) ≡ None → L.last loader.new ≡ L.last loader.old }
+    ensures unasked { asked (map string_bytes words.now) ≡ None → loader.new ≡ loader.old }
+    ensures asked_once { asked (map string_bytes words.now) ≢ None → Raised (L.calls loader.old) (L.calls loader.new) }
     ensures honest { IfSome (asked (map string_bytes words.now)) (λ name. L.faults loader.new ≡ L.faults loader.old
         → IfSome (L.last loader.new) (λ last. IsHeld (L.held loader.old) name (Ok last.1))) }
     ensures read_cause { result ≡ Ok Status.ReadFailed → Rose (L.faults loader.old) (L.faults loader.new) }

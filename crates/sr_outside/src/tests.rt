@@ -2,7 +2,7 @@ use super::*;
 use std::alloc::{AllocError, Global};
 use std::io::{ErrorKind, Write};
 use std::test::Fail;
-use std::{env, fs, io};
+use std::{env, fs, io, process};
 
 fn bytes(alloc: Global, text: &str) -> Result<Vec<u8>, AllocError> {
     Vec::from_slice(alloc, text.as_bytes())
@@ -142,19 +142,18 @@ fn err_over_a_narrow_writer(rt: HostRuntime) -> Result<(), Fail> {
 fn files_of_a_folder(rt: HostRuntime) -> Result<(), Fail> {
     let alloc = rt.alloc();
     let folder = env::temp_dir(&rt)?;
-    let file = folder.join(alloc, "shadowrealm-outside.js")?;
+    let id = process::id(rt.process());
+    let name = format!(in alloc; "shadowrealm-outside-{id}.js")?;
+    let file = folder.join(alloc, name.as_str())?;
     fs::write(&rt, &file, "print")?;
     let text = folder
         .to_str()
         .ok_or("the folder of temporary files is UTF-8")?;
     let mut loader = DirLoader::at(alloc, rt.clone()?, String::from_str(alloc, text)?);
-    let found = loader.load(b"shadowrealm-outside.js")?;
+    let found = loader.load(name.as_bytes())?;
     fs::remove_file(&rt, &file)?;
     assert_eq!(rt; shown(&found), b"print".as_slice());
-    assert_eq!(rt;
-        shown(&loader.load(b"shadowrealm-outside.js")?),
-        b"-".as_slice()
-    );
+    assert_eq!(rt; shown(&loader.load(name.as_bytes())?), b"-".as_slice());
     assert_eq!(rt; shown(&loader.load(b"\xff")?), b"-".as_slice());
     assert_eq!(rt; shown(&loader.load(b"a\0b")?), b"-".as_slice());
     assert_eq!(rt; shown(&loader.load(b".")?), b"!".as_slice());
