@@ -11,5 +11,6 @@ pub mod LiteralSteps
 pub mod TextSteps
 pub mod Punctuators
 pub mod PunctuatorLaws
+pub mod NumberLaws
 pub mod RowLaws
 pub mod TextLaws

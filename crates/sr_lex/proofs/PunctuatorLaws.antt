@@ -248,18 +248,18 @@ punctuator_most (a ∷ b ∷ c ∷ d ∷ e ∷ us) (suc (suc (suc (suc (suc n)))
 
 begins_apart : List ℕ → Bool
 begins_apart [] = false
-begins_apart (u ∷ us) = not (is_name_start u || is_quote u)
+begins_apart (u ∷ us) = not (is_name_start u || is_quote u || is_digit u)
 
 all_apart : list_any (λ p. not (begins_apart p)) punctuators ≡ false
-unfolding begins_apart is_name_start is_quote
+unfolding begins_apart is_name_start is_quote is_digit
 all_apart = refl
 
--- no name and no string literal begins so
-pub punctuator_apart : (u : ℕ) (us after : List ℕ) → is_punctuator (u ∷ us) after ≡ true → (is_name_start u || is_quote u) ≡ false
+-- no name, no string literal and no number begins so
+pub punctuator_apart : (u : ℕ) (us after : List ℕ) → is_punctuator (u ∷ us) after ≡ true → (is_name_start u || is_quote u || is_digit u) ≡ false
 unfolding is_punctuator begins_apart
 punctuator_apart u us after h =
     let p = and_true (is_one_of (u ∷ us) punctuators) (not (is_one_of (u ∷ us) (codes "." ∷ codes "?." ∷ []) && begins_with_digit after)) h in
-    not_true (is_name_start u || is_quote u) (in_list begins_apart (u ∷ us) punctuators all_apart p.0)
+    not_true (is_name_start u || is_quote u || is_digit u) (in_list begins_apart (u ∷ us) punctuators all_apart p.0)
 
 pub no_punctuator : (after : List ℕ) → is_punctuator [] after ≡ false
 unfolding is_punctuator

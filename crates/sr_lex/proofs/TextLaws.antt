@@ -4,14 +4,14 @@ use Rattle.std.specs.Prelude.{Option, Some, None, IsTrue, MatchOption, ⊤, slic
 use Rattle.std.specs.List.{list_all}
 use Rattle.std.proofs.lemmas.List.{drop-drop, length-drop}
 use Rattle.std.proofs.lemmas.Option.{slice_get_within, slice_get_past}
-use Rattle.sr_lex.specs.Units.{is_between, is_line_end, is_white_space, is_name_start, is_name_part}
+use Rattle.sr_lex.specs.Units.{is_between, is_line_end, is_white_space, is_digit, is_name_start, is_name_part}
 use Rattle.sr_lex.specs.Strings.{is_quote}
 use Rattle.sr_lex.specs.Tokens.{Comment, single_line, multi_line, hashbang, IsFirst, LineEnds, Gap, none, white_space, line_end, comment, NoComment, IsRow, HasRow, IsLongest, Spans, last, next, Fails, here, later, Tokens, FailsAt, IsTokenOf}
 use Rattle.sr_lex.specs.Scan.{line_len, piece, row, token_of, with_front, lexed}
 use Rattle.sr_lex.specs.Laws.{OneReading, OneFailure, TokensOrFailure, EachTextIsRead}
 use Rattle.sr_lex.specs.declared.token.Token.{Token}
 use Rattle.sr_lex.specs.declared.token.TokenKind.{TokenKind}
-use Rattle.sr_lex.specs.declared.token.TokenKind.TheVariants.{Name, Text, Punctuator}
+use Rattle.sr_lex.specs.declared.token.TokenKind.TheVariants.{Name, Number, Text, Punctuator}
 use Rattle.sr_lex.specs.declared.gaps.Blank.{Blank}
 use Rattle.sr_lex.specs.declared.rows.Row.{Row}
 use Rattle.sr_lex.proofs.Truth.{or_true, or_false, and_true, same_number, both_ways}
@@ -19,7 +19,8 @@ use Rattle.sr_lex.proofs.Places.{get_front, drop_front, range_is}
 use Rattle.sr_lex.proofs.Pieces.{IsInk, piece_says, piece_gap}
 use Rattle.sr_lex.proofs.GapLaws.{gap_at, piece_at, gap_holds, gap_ends, gap_is, no_comment, start, number, no_piece}
 use Rattle.sr_lex.proofs.PunctuatorLaws.{punctuator_ink}
-use Rattle.sr_lex.proofs.RowLaws.{RowAt, IsTheRow, RowSays, row_says, opened, quote_front, no_row}
+use Rattle.sr_lex.proofs.NumberLaws.{literal_begins}
+use Rattle.sr_lex.proofs.RowLaws.{RowAt, IsTheRow, RowSays, row_says, digit_between, opened, quote_front, no_row}
 use Rattle.sr_lex.proofs.TextSteps.{ends, fails, goes}
 
 -- ---- rows at places
@@ -99,27 +100,30 @@ name_range u h = elim (or_true (is_between 0x41 0x5A u || is_between 0x61 0x7A u
   ]
 ]
 
-name_ink : (u : ℕ) → is_name_start u ≡ true → IsInk u
+plain_ink : (u : ℕ) → 0x24 ≤ u → u ≤ 0x7A → IsInk u
 unfolding is_white_space is_line_end
-name_ink u h =
-    let r = name_range u h in
-    let a = r.0 in
-    let b = r.1 in (
-      rw (
-        above u 0x09 (omega arith),
-        above u 0x0B (omega arith),
-        above u 0x0C (omega arith),
-        above u 0x20 (omega arith),
-        below u 0xA0 (omega arith),
-        below u 0x1680 (omega arith),
-        short_of u 0x2000 (omega arith),
-        below u 0x202F (omega arith),
-        below u 0x205F (omega arith),
-        below u 0x3000 (omega arith),
-        below u 0xFEFF (omega arith),
-      ) refl,
-      rw (above u 0x0A (omega arith), above u 0x0D (omega arith), below u 0x2028 (omega arith), below u 0x2029 (omega arith)) refl,
-    )
+plain_ink u a b = (
+  rw (
+    above u 0x09 (omega arith),
+    above u 0x0B (omega arith),
+    above u 0x0C (omega arith),
+    above u 0x20 (omega arith),
+    below u 0xA0 (omega arith),
+    below u 0x1680 (omega arith),
+    short_of u 0x2000 (omega arith),
+    below u 0x202F (omega arith),
+    below u 0x205F (omega arith),
+    below u 0x3000 (omega arith),
+    below u 0xFEFF (omega arith),
+  ) refl,
+  rw (above u 0x0A (omega arith), above u 0x0D (omega arith), below u 0x2028 (omega arith), below u 0x2029 (omega arith)) refl,
+)
+
+name_ink : (u : ℕ) → is_name_start u ≡ true → IsInk u
+name_ink u h = let r = name_range u h in plain_ink u r.0 r.1
+
+digit_ink : (u : ℕ) → is_digit u ≡ true → IsInk u
+digit_ink u h = let r = digit_between u h in let a = r.0 in let b = r.1 in plain_ink u (omega arith) (omega arith)
 
 quote_ink : (u : ℕ) → is_quote u ≡ true → IsInk u
 unfolding is_quote is_white_space is_line_end
@@ -130,6 +134,10 @@ quote_ink u h = elim (or_true (u == 0x22) (u == 0x27) h) [
 
 row_ink : (kind : TokenKind) (u : ℕ) (us after : List ℕ) → IsRow kind (u ∷ us) after → IsInk u
 row_ink Name u us after h = name_ink u (and_true (is_name_start u) (list_all is_name_part us) h).0
+row_ink Number u us after h =
+    let f = literal_begins h.0.1 in
+    let e = quote_front u f.0 us f.1 f.2 in
+    digit_ink u (ap is_digit e.0 ∙ f.3)
 row_ink Text u us after h =
     let o = opened h.1 in
     let e = quote_front u o.0 us o.1 o.2 in

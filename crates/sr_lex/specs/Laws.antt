@@ -1,6 +1,7 @@
--- What holds of tokens and of string literals.
-use Rattle.std.specs.Prelude.{◌≡◌, ℕ, List, ◌⊎◌}
+-- What holds of tokens and of literals.
+use Rattle.std.specs.Prelude.{◌≡◌, ℕ, ℤ, Option, List, ◌⊎◌}
 use Rattle.sr_lex.specs.Strings.{StringLiteral}
+use Rattle.sr_lex.specs.Numbers.{NumberLiteral}
 use Rattle.sr_lex.specs.Tokens.{Tokens, FailsAt}
 use Rattle.sr_lex.specs.declared.token.Token.{Token}
 
@@ -23,3 +24,7 @@ EachTextIsRead = (text : List ℕ) → ((ts : List Token) × Tokens text ts) ⊎
 -- a string literal has one value
 abbrev pub OneValue : Type 0
 OneValue = (us v w : List ℕ) → StringLiteral us v → StringLiteral us w → v ≡ w
+
+-- and so has a number literal
+abbrev pub OneNumber : Type 0
+OneNumber = (us : List ℕ) (v w : Option ℤ) → NumberLiteral us v → NumberLiteral us w → v ≡ w

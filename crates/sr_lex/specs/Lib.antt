@@ -1,5 +1,6 @@
 pub mod Units
 pub mod Strings
+pub mod Numbers
 pub mod Tokens
 pub mod Laws
 pub mod Answers

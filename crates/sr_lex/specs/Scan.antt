@@ -6,10 +6,12 @@ use Rattle.std.specs.List.{list_any}
 use Rattle.std.specs.Char.{digit_value}
 use Rattle.std.specs.Char.Escape.{encode_utf16}
 use Rattle.sr_lex.specs.Units.{line_feed, carriage_return, is_line_end, is_white_space, is_digit, is_name_start, is_name_part, begins_with_digit}
+use Rattle.sr_num.specs.StringToNumber.{base_of_letter}
 use Rattle.sr_lex.specs.Strings.{backslash, is_quote, single_escape, is_hex_digit, begins_with_line_feed}
+use Rattle.sr_lex.specs.Numbers.{digit_zero, separator, may_end}
 use Rattle.sr_lex.specs.declared.token.Token.{Token}
 use Rattle.sr_lex.specs.declared.token.TokenKind.{TokenKind}
-use Rattle.sr_lex.specs.declared.token.TokenKind.TheVariants.{Name, Text, Punctuator}
+use Rattle.sr_lex.specs.declared.token.TokenKind.TheVariants.{Name, Number, Text, Punctuator}
 use Rattle.sr_lex.specs.declared.gaps.Blank.{Blank}
 use Rattle.sr_lex.specs.declared.characters.HexRun.{HexRun}
 use Rattle.sr_lex.specs.declared.characters.Character.{Character}
@@ -156,6 +158,34 @@ literal_units quote us = option_map (λ l. l.units) (literal (length us) quote u
 abbrev pub IsValueOf : ℕ → List ℕ → List ℕ → Type 0
 IsValueOf quote us value = IfSome (literal (length us) quote us) (λ l. value ≡ l.value)
 
+-- ---- number literals
+
+-- the value of digits of the base with separators, after digits of this value; 2^53 where it is more than 2^53 - 1. The flag
+-- says that a digit stands before these units.
+abbrev pub digits_from : ℕ → Bool → ℕ → List ℕ → Option ℕ
+digits_from base after v [] = if after then Some v else None
+digits_from base after v (u ∷ us) =
+    if u == separator then (if after then digits_from base false v us else None)
+    else (if nat_lt (digit_value u) base then digits_from base true (min (v * base + digit_value u) 0x20000000000000) us else None)
+
+abbrev pub based_value : Option ℕ → List ℕ → Option ℕ
+based_value None us = None
+based_value (Some base) us = digits_from base false 0 us
+
+-- the value of the literal whose leading 0 stands before these units
+abbrev pub value_after_zero : List ℕ → Option ℕ
+value_after_zero [] = Some 0
+value_after_zero (letter ∷ us) = based_value (base_of_letter letter) us
+
+-- the value of a literal, so far without an end
+unfoldable pub number_value : List ℕ → Option ℕ
+number_value [] = None
+number_value (u ∷ us) = if u == digit_zero then value_after_zero us else digits_from 10 false 0 (u ∷ us)
+
+abbrev pub is_safe_value : Option ℕ → Bool
+is_safe_value None = false
+is_safe_value (Some v) = nat_le v 9007199254740991
+
 -- ---- rows
 
 -- the units of names at the front
@@ -210,13 +240,20 @@ punctuator_len us =
 abbrev pub row_of : TokenKind → ℕ → Row
 row_of kind units = record { kind = kind; units = units }
 
+-- the number at the front, which is all units of names there
+unfoldable pub number_row : List ℕ → Option Row
+number_row us =
+    let n = name_len us in
+    if is_safe_value (number_value (take n us)) && may_end (take n us) (drop n us) then Some (row_of Number n) else None
+
 -- the token at the front
 unfoldable pub row : List ℕ → Option Row
 row [] = None
 row (u ∷ us) =
     if is_name_start u then Some (row_of Name (name_len us + 1))
     else (if is_quote u then option_map (λ len. row_of Text (len + 1)) (literal_units u us)
-    else (let n = punctuator_len (u ∷ us) in if n == 0 then None else Some (row_of Punctuator n)))
+    else (if is_digit u then number_row (u ∷ us)
+    else (let n = punctuator_len (u ∷ us) in if n == 0 then None else Some (row_of Punctuator n))))
 
 -- ---- texts
 

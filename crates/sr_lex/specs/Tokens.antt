@@ -4,9 +4,10 @@ use Rattle.std.specs.List.{list_all, list_any}
 use Rattle.std.specs.Str.{bytes_eq}
 use Rattle.sr_lex.specs.Units.{is_line_end, is_white_space, is_name_start, is_name_part, begins_with_digit}
 use Rattle.sr_lex.specs.Strings.{IsLiteral}
+use Rattle.sr_lex.specs.Numbers.{IsNumber, may_end}
 use Rattle.sr_lex.specs.declared.token.Token.{Token}
 use Rattle.sr_lex.specs.declared.token.TokenKind.{TokenKind}
-use Rattle.sr_lex.specs.declared.token.TokenKind.TheVariants.{Name, Text, Punctuator}
+use Rattle.sr_lex.specs.declared.token.TokenKind.TheVariants.{Name, Number, Text, Punctuator}
 
 -- ---- comments and white space
 
@@ -76,6 +77,7 @@ is_punctuator us after = is_one_of us punctuators && not (is_one_of us (codes ".
 -- the units are a token of this kind, before these units
 abbrev pub IsRow : TokenKind → List ℕ → List ℕ → Type 0
 IsRow Name us after = IsTrue (is_name us)
+IsRow Number us after = IsNumber us × IsTrue (may_end us after)
 IsRow Text us after = IsLiteral us
 IsRow Punctuator us after = IsTrue (is_punctuator us after)
 

@@ -1,25 +1,24 @@
 -- The code units that the tokens of a text are told by.
 use Rattle.std.specs.Prelude.{ℕ, Bool, false, ◌||◌, ◌==◌, nat_le, ◌&&◌, List, [], ◌∷◌}
+use Rattle.sr_num.specs.StringToNumber as trimmed
 
--- LF, CR, LINE SEPARATOR, PARAGRAPH SEPARATOR (ECMA-262 12.3)
 abbrev pub line_feed : ℕ
 line_feed = 0x000A
 
 abbrev pub carriage_return : ℕ
 carriage_return = 0x000D
 
+-- LF, CR, LINE SEPARATOR, PARAGRAPH SEPARATOR (ECMA-262 12.3), which ToNumber trims too
 unfoldable pub is_line_end : ℕ → Bool
-is_line_end u = u == line_feed || u == carriage_return || u == 0x2028 || u == 0x2029
+is_line_end u = trimmed.is_line_terminator u
 
 -- the unit lies from the first to the last of a range
 abbrev pub is_between : ℕ → ℕ → ℕ → Bool
 is_between first last u = nat_le first u && nat_le u last
 
--- ECMA-262 12.2: TAB, VT, FF, ZWNBSP and the space separators
+-- ECMA-262 12.2: TAB, VT, FF, ZWNBSP and the space separators, which ToNumber trims too
 unfoldable pub is_white_space : ℕ → Bool
-is_white_space u =
-    u == 0x0009 || u == 0x000B || u == 0x000C || u == 0x0020 || u == 0x00A0 || u == 0x1680
-    || is_between 0x2000 0x200A u || u == 0x202F || u == 0x205F || u == 0x3000 || u == 0xFEFF
+is_white_space u = trimmed.is_white_space u
 
 -- 0 to 9
 unfoldable pub is_digit : ℕ → Bool

@@ -1,4 +1,4 @@
-ghost use Rattle.sr_lex.specs.Laws.{OneReading, OneFailure, TokensOrFailure, EachTextIsRead, OneValue};
+ghost use Rattle.sr_lex.specs.Laws.{OneReading, OneFailure, TokensOrFailure, EachTextIsRead, OneValue, OneNumber};
 
 /// A text has the tokens of one list at most.
 pub fn one_reading()
@@ -23,4 +23,9 @@ pub fn each_text_is_read()
 /// A string literal has one value.
 pub fn one_value()
     ensures { OneValue }
+{}
+
+/// A number literal has one value.
+pub fn one_number()
+    ensures { OneNumber }
 {}

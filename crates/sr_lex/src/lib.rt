@@ -9,6 +9,8 @@ mod gaps;
 mod literals;
 /// The laws of the definitions.
 pub mod laws;
+/// Number literals.
+mod numbers;
 /// The tokens of a text.
 mod reading;
 /// The token at the front of some units.
@@ -18,7 +20,7 @@ mod token;
 /// Code units by what tokens ask of them.
 mod units;
 
-pub use reading::{lex, string_value, token_text};
+pub use reading::{lex, number_value, string_value, token_text};
 pub use token::{LexRefusal, Token, TokenKind};
 
 #[cfg(test)]

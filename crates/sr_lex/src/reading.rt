@@ -2,13 +2,16 @@ ghost use Rattle.std.specs.Prelude.{◌≡◌, ◌<◌, ◌≤◌, Ok, length, A
 ghost use Rattle.sr_lex.specs.Tokens.{Tokens, IsTokenOf, token_units};
 ghost use Rattle.sr_lex.specs.Answers.{Refuses, Gives};
 ghost use Rattle.sr_lex.specs.Strings.{StringLiteral, IsLiteral};
+ghost use Rattle.sr_lex.specs.Numbers.{NumberLiteral};
 ghost use Rattle.sr_lex.specs.Scan as spec;
-ghost use Rattle.sr_lex.specs.declared.token.TokenKind.TheVariants.{Text};
+ghost use Rattle.sr_lex.specs.declared.token.TokenKind.TheVariants.{Number, Text};
 
 use crate::gaps::gap;
 use crate::literals::literal_value;
+use crate::numbers::literal_number;
 use crate::rows::row_at_front;
 use crate::token::{LexRefusal, Token};
+use sr_num::Num;
 use sr_text::{Str, TextRefusal};
 use std::alloc::{AllocError, Global};
 
@@ -81,4 +84,13 @@ pub fn string_value(alloc: Global, text: &Str, token: &Token) -> Result<Str, All
         Err(TextRefusal::TooLong) => unreachable!(),
         Err(TextRefusal::NotUtf8(_)) => unreachable!(),
     }
+}
+
+/// The value of a number literal (ECMA-262 12.9.3.3).
+pub fn number_value(text: &Str, token: &Token) -> Num
+    requires token { IsTokenOf text.now token.now }
+    requires literal { token.now.kind ≡ Number }
+    ensures { NumberLiteral (token_units text.now token.now) result }
+{
+    literal_number(&text.units()[token.from..token.to])
 }

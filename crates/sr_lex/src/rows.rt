@@ -2,6 +2,7 @@ ghost use Rattle.std.specs.Prelude.{◌≡◌, ◌≤◌, ◌<◌, length, IfSom
 ghost use Rattle.sr_lex.specs.Scan as spec;
 
 use crate::literals::literal_len;
+use crate::numbers::{is_safe_value, may_end, number_value};
 use crate::token::TokenKind;
 use crate::units::{is_digit, is_name_part, is_name_start, is_quote};
 
@@ -172,6 +173,24 @@ fn punctuator_len(units: &[u16]) -> usize
     }
 }
 
+/// The number at the front, which is all units of names there.
+#[tactic(auto, unfolding(crate::specs::Scan::number_row), using(crate::proofs::NumberLaws::number_some))]
+fn number_row(units: &[u16]) -> Option<Row>
+    ensures value { result ≡ spec.number_row units.now }
+    ensures within { IfSome result (λ row. (0 < row.units) × (row.units ≤ length units.now)) }
+{
+    let len = name_len(units);
+    let literal = &units[..len];
+    if is_safe_value(number_value(literal)) && may_end(literal, &units[len..]) {
+        Some(Row {
+            kind: TokenKind::Number,
+            units: len,
+        })
+    } else {
+        None
+    }
+}
+
 /// The token at the front.
 #[tactic(auto, unfolding(crate::specs::Scan::row), using(crate::proofs::Punctuators::punctuator_within))]
 pub fn row_at_front(units: &[u16]) -> Option<Row>
@@ -194,6 +213,9 @@ pub fn row_at_front(units: &[u16]) -> Option<Row>
             kind: TokenKind::Text,
             units: len + 1,
         });
+    }
+    if is_digit(first) {
+        return number_row(units);
     }
     match punctuator_len(units) {
         0 => None,

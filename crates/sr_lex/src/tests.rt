@@ -1,11 +1,11 @@
-use crate::{LexRefusal, TokenKind, lex, string_value, token_text};
+use crate::{LexRefusal, TokenKind, lex, number_value, string_value, token_text};
 use sr_text::Str;
 use std::alloc::Global;
 use std::fmt::Write;
 use std::test::Fail;
 
 /// Texts, and their tokens or the place of failure. `^` is a line end before a token.
-const TEXTS: [(&str, &str); 41] = [
+const TEXTS: [(&str, &str); 57] = [
     ("", ""),
     (
         " \t\u{b}\u{c}\u{a0}\u{1680}\u{2000}\u{200a}\u{202f}\u{205f}\u{3000}\u{feff}a",
@@ -58,7 +58,23 @@ const TEXTS: [(&str, &str); 41] = [
     ("a.b", "name 0-1 punctuator 1-2 name 2-3 "),
     ("..a", "punctuator 0-1 punctuator 1-2 name 2-3 "),
     (".5", "fails at 0"),
-    ("a 1", "fails at 2"),
+    ("a 1", "name 0-1 number 2-3 "),
+    ("0 10 1_000", "number 0-1 number 2-4 number 5-10 "),
+    ("0x1F+0B1", "number 0-4 punctuator 4-5 number 5-8 "),
+    ("0x1.a", "number 0-3 punctuator 3-4 name 4-5 "),
+    ("1 .a", "number 0-1 punctuator 2-3 name 3-4 "),
+    ("9007199254740991", "number 0-16 "),
+    ("1.5", "fails at 0"),
+    ("a 0.a", "fails at 2"),
+    ("1a", "fails at 0"),
+    ("1$", "fails at 0"),
+    ("08", "fails at 0"),
+    ("0_1", "fails at 0"),
+    ("1__0", "fails at 0"),
+    ("1_", "fails at 0"),
+    ("0x_1", "fails at 0"),
+    ("0b2", "fails at 0"),
+    ("1n", "fails at 0"),
     ("a\n`b`", "fails at 2"),
     ("a\u{e9}", "fails at 1"),
     ("a\\u0062", "fails at 1"),
@@ -95,6 +111,29 @@ const LITERALS: [(&str, &[u16]); 18] = [
     ("'\\a\\\u{e9}'", &[0x61, 0xE9]),
 ];
 
+/// Number literals and their values; none where a text is no token.
+const NUMBERS: [(&str, Option<i64>); 16] = [
+    ("0", Some(0)),
+    ("7", Some(7)),
+    ("1_0_0", Some(100)),
+    ("0x1f", Some(31)),
+    ("0XfF", Some(255)),
+    ("0x0_0A", Some(10)),
+    ("0b101", Some(5)),
+    ("0O17", Some(15)),
+    ("9007199254740991", Some(9007199254740991)),
+    ("0x1F_FFFF_FFFF_FFFF", Some(9007199254740991)),
+    (
+        "0b00000000000000000000000000000000000000000000000000000000000000000001",
+        Some(1),
+    ),
+    ("9007199254740992", None),
+    ("0x20000000000000", None),
+    ("100000000000000000000000000000000000000000", None),
+    ("0x", None),
+    ("00", None),
+];
+
 /// The tokens of a text, or the place of failure, as words.
 fn shown(alloc: Global, text: &str) -> Result<String, Fail> {
     let text = Str::from_utf8(alloc, text.as_bytes())?;
@@ -105,6 +144,7 @@ fn shown(alloc: Global, text: &str) -> Result<String, Fail> {
                 let line = if token.line_before { "^" } else { "" };
                 let kind = match token.kind {
                     TokenKind::Name => "name",
+                    TokenKind::Number => "number",
                     TokenKind::Text => "text",
                     TokenKind::Punctuator => "punctuator",
                 };
@@ -145,8 +185,33 @@ fn reads_string_values(rt: HostRuntime) -> Result<(), Fail> {
                     "of {literal:?}"
                 );
             }
-            TokenKind::Name | TokenKind::Punctuator => panic!(rt; "{literal:?} is no literal"),
+            TokenKind::Name | TokenKind::Number | TokenKind::Punctuator => {
+                panic!(rt; "{literal:?} is no literal")
+            }
         }
+    }
+    Ok(())
+}
+
+#[test]
+fn reads_number_values(rt: HostRuntime) -> Result<(), Fail> {
+    let alloc = rt.alloc();
+    for (literal, value) in NUMBERS {
+        let text = Str::from_utf8(alloc, literal.as_bytes())?;
+        let read = match lex(alloc, &text) {
+            Ok(tokens) => {
+                assert_eq!(rt; tokens.len(), 1, "in {literal:?}");
+                let token = tokens[0];
+                match token.kind {
+                    TokenKind::Number => number_value(&text, &token).get(),
+                    TokenKind::Name | TokenKind::Text | TokenKind::Punctuator => {
+                        panic!(rt; "{literal:?} is no number")
+                    }
+                }
+            }
+            Err(_) => None,
+        };
+        assert!(rt; read == value, "of {literal:?}");
     }
     Ok(())
 }

@@ -9,6 +9,8 @@ use thiserror::Error;
 pub enum TokenKind {
     /// A name, reserved or not.
     Name,
+    /// A number literal.
+    Number,
     /// A string literal.
     Text,
     /// A punctuator.
