@@ -1,0 +1,11 @@
+use Rattle.std.proofs.Common.{rules, arith}
+use Rattle.std.proofs.lemmas.Grind.{common_steps}
+use Rattle.sr_parse.specs.Grammar.{tree, calls_from}
+use Rattle.sr_parse.proofs.Turns.{one_more}
+use Rattle.sr_parse.proofs.grammar.Grammar.calls.Goals as goal
+
+pub loop-turn-preserved : goal.loop-turn-preserved
+unfolding calls_from
+loop-turn-preserved g c =
+    let e = one_more (λ n. calls_from (tree c.args.self.now.depth) n c.loop-turn.of c.loop-turn.tokens) _ c.loop-turn._turn c.loop-turn-test.true c.loop-turn.invariant in
+    first_of (search rules, grind (arith, common_steps))

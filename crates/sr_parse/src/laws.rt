@@ -1,0 +1,30 @@
+ghost use Rattle.sr_parse.specs.Laws.{OneSorting, OneScript, EachScript};
+
+use sr_lex::laws::{
+    each_text_is_read, one_failure, one_number, one_reading, one_value, tokens_or_failure,
+};
+
+/// The tokens of a text are one list of tokens to the grammar.
+pub fn one_sorting()
+    ensures { OneSorting }
+{
+    one_value();
+    one_number();
+}
+
+/// A text is read as one list of statements at most, or refused for one reason.
+pub fn one_script()
+    ensures { OneScript }
+{
+    one_reading();
+    one_failure();
+    tokens_or_failure();
+    one_sorting();
+}
+
+/// Each text is read or refused.
+pub fn each_script()
+    ensures { EachScript }
+{
+    each_text_is_read();
+}

@@ -1,0 +1,4 @@
+mod Built
+mod Collected
+mod Fitting
+mod Sets

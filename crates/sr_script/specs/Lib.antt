@@ -1,0 +1,5 @@
+pub mod Names
+pub mod Form
+pub mod Parts
+pub mod Table
+pub mod Built
