@@ -16,13 +16,17 @@ told_of (Thrown text) = Thrown text
 abbrev pub nothing : Outcome Crossing
 nothing = Valued (Plain Undefined)
 
+-- ECMA-262 6.2.4: an end otherwise than normally
+pub data AbruptCompletion : Type 0 where
+  Throw : Value → AbruptCompletion
+  Return : Value → AbruptCompletion
+  Break : Option Text → Option Value → AbruptCompletion
+  Continue : Option Text → Option Value → AbruptCompletion
+
 -- ECMA-262 6.2.4; the work of an Evaluate, an Import or a Call ends with what leaves the realm
 pub data Completion : Type 0 where
   Normal : Option Value → Completion  -- None: empty
-  Throw : Value → Completion
-  Return : Value → Completion
-  Break : Option Text → Option Value → Completion
-  Continue : Option Text → Option Value → Completion
+  Abrupt : AbruptCompletion → Completion
   Leave : Outcome Passed → Completion
 
 -- where arithmetic leaves the integers of the profile

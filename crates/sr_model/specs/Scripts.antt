@@ -1,11 +1,11 @@
 -- Words for rows. A row eats what it was given from the front, like the numbered steps of an algorithm.
-use Rattle.std.specs.Prelude.{ℕ, [], ◌∷◌, Option}
+use Rattle.std.specs.Prelude.{ℕ, zero, suc, [], ◌∷◌, Option}
 use Rattle.sr_model.specs.Values.{Text, Name, Value, Crossing}
 use Rattle.sr_model.specs.Outcomes.{Outcome, Completion, Normal, Stop}
 use Rattle.sr_model.specs.Events.{Answer}
 use Rattle.sr_model.specs.Ports.{Request, Charge, Enter, Line, Load, Ask}
 use Rattle.sr_model.specs.Realm.{Inner, Realm}
-use Rattle.sr_model.specs.Tasks.{Item, Gave, Paid, Brought, Replied, Coming, Part, Use, Give, Halt, Turned, Script}
+use Rattle.sr_model.specs.Tasks.{Item, Gave, Paid, Brought, Replied, Kept, Coming, Part, Use, Give, Halt, Turned, Script}
 
 module _ {T R : Type 0} where
   -- a turn that changes what the realm holds
@@ -21,6 +21,16 @@ module _ {T R : Type 0} where
   turn f next k [] r = changing f next r
   turn f next k (i ∷ got) r = k i got r
 
+  -- a turn that also keeps that a change was made
+  abbrev pub noted : Turned T R → Turned T R
+  noted t = record t { keeps = 0 ∷ t.keeps }
+
+  -- changes what the realm holds as it comes here first, and goes on. It keeps that it did so
+  abbrev pub changed : (Inner R → Inner R) → Script T R → Script T R
+  changed f k [] r = noted (k [] (record r { inner = f r.inner }))
+  changed f k (Kept n ∷ got) r = k got r
+  changed f k (i ∷ got) r = changed f k got r
+
   -- ends with a completion
   abbrev pub give : Completion → Script T R
   give o got r = onward (Give o) r
@@ -34,6 +44,11 @@ module _ {T R : Type 0} where
   charge cost k [] r = onward (Use (Charge cost)) r
   charge cost k (Paid ∷ got) r = k got r
   charge cost k (i ∷ got) r = charge cost k got r
+
+  -- pays so many steps. A charge of 0 is none
+  abbrev pub pay : ℕ → Script T R → Script T R
+  pay zero k = k
+  pay (suc cost) k = charge (suc cost) k
 
   -- enters a function
   abbrev pub enter : Script T R → Script T R

@@ -1,12 +1,12 @@
 mod Tests
 mod Replaying
 mod Alone
-mod Counting
-mod LiveCounting
+pub mod Counting
+pub mod LiveCounting
 mod SoloCounting
 mod Larger
-mod LiveLarger
+pub mod LiveLarger
 mod SoloLarger
 mod Alike
 mod Kinship
-mod PortSteps
+pub mod PortSteps
