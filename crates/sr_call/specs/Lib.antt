@@ -1,0 +1,4 @@
+pub mod Rows
+pub mod At
+pub mod Steps
+pub mod Lines

@@ -1,0 +1,30 @@
+-- The rows of the built-in functions: what a call of each does, step by step.
+use Rattle.std.specs.Prelude.{List, [], ◌∷◌, ◌++◌}
+use Rattle.sr_model.specs.Values.{Text, Value, Simple, Undefined}
+use Rattle.sr_model.specs.Scripts.{charge, enter, line}
+use Rattle.sr_conv.specs.Conversions.{to_text}
+use Rattle.sr_state.specs.Work.{Steps}
+use Rattle.sr_state.specs.Trees.{give_value, computed, made}
+
+-- texts with a space between each two
+abbrev pub joined : List Text → Text
+joined [] = []
+joined (s ∷ []) = s
+joined (s ∷ t ∷ ts) = s ++ 0x20 ∷ joined (t ∷ ts)
+
+-- `print`: the line is printed, and undefined is given
+abbrev pub print_line : Text → Steps
+print_line text = line text (give_value (Simple Undefined))
+
+-- the line is made of the texts
+abbrev pub print_joined : Text → Steps
+print_joined text = made text (print_line text)
+
+-- each argument pays a step as its turn begins, and is made a text
+abbrev pub print_rest : List Value → List Text → Steps
+print_rest [] texts = print_joined (joined texts)
+print_rest (v ∷ vs) texts = charge 1 (computed (to_text v) (λ s. print_rest vs (texts ++ s ∷ [])))
+
+-- `print` with its arguments: the function is entered, and they are printed in order as one line
+abbrev pub print : List Value → Steps
+print vs = enter (print_rest vs [])

@@ -1,0 +1,11 @@
+use Rattle.std.proofs.Common.{◌≡◌, sym, ap, ◌∙◌}
+use Rattle.sr_conv.specs.Answers.{operated_of}
+use Rattle.sr_state.specs.declared.ends.Answer.TheVariants as answer
+use Rattle.sr_state.specs.declared.ends.Completion.TheVariants as completion
+use Rattle.sr_expr.proofs.Steps.{unary_end}
+use Rattle.sr_expr.proofs.unary.unary.Goals as goal
+
+pub returns-in-1 : goal.returns-in-1
+returns-in-1 c =
+    let answer : c.args.state.now.answer ≡ answer.Done (completion.Normal c.in-Done-Normal.x) = sym c.take_answer.ensures.answer ∙ c.in-Done-Normal.is ∙ ap answer.Done c.in-Done-Normal.field-0-is in
+    unary_end c.args.source c.args.at c.args.op c.args.operand.now c.args.frame c.args.state.now c.take_answer.new.self _ c.in-Done-Normal.x (operated_of c.in_ok-came-in-Done-Normal.came) c.end_operated.result c.in-1.is answer c.in_ok-came-in-Done-Normal.ensures c.take_answer.ensures.rest c.end_operated.ensures

@@ -1,0 +1,17 @@
+-- How far a list is carried out.
+use Rattle.std.specs.Prelude.{◌≡◌, ℕ, suc, List, [], ◌∷◌, drop, Option, None, Some}
+use Rattle.sr_ast.specs.declared.tree.Tree.{Tree}
+use Rattle.sr_expr.specs.declared.places.Place.{Place}
+use Rattle.sr_expr.specs.declared.places.Place.TheVariants as place
+
+-- what is left from a place on begins with this tree, or nothing is left
+abbrev pub Here : ℕ → List Tree → Option Tree → Type 0
+Here n ts None = drop n ts ≡ []
+Here n ts (Some t) = drop n ts ≡ t ∷ drop (suc n) ts
+
+-- the stage of a call
+abbrev pub IsPlace : ℕ → Place → Type 0
+IsPlace n place.Start = n ≡ 0
+IsPlace n place.Callee = n ≡ 1
+IsPlace n place.Called = n ≡ 2
+IsPlace n (place.Argument k) = n ≡ suc (suc (suc k))

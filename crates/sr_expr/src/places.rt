@@ -1,0 +1,58 @@
+ghost use Rattle.std.specs.Prelude.{◌≡◌, suc, IfOk, MatchOption};
+ghost use Rattle.std.specs.Option.{option_copied};
+ghost use Rattle.sr_expr.specs.Places.{Here, IsPlace};
+
+use sqlite_items::Items;
+use sr_ast::Tree;
+use sr_shared::Shared;
+use std::alloc::AllocError;
+
+/// How far a call is.
+pub enum Place {
+    /// At its beginning.
+    Start,
+    /// At its callee.
+    Callee,
+    /// It is under way.
+    Called,
+    /// At the argument of this number, from 0.
+    Argument(u32),
+}
+
+/// How far the call of this stage is.
+pub fn place_of(stage: u32) -> Place
+    ensures { IsPlace stage result }
+{
+    match stage {
+        0 => Place::Start,
+        1 => Place::Callee,
+        2 => Place::Called,
+        _ => Place::Argument(stage - 3),
+    }
+}
+
+/// The number before a stage.
+pub fn before(stage: u32) -> Option<u32>
+    ensures { MatchOption result (stage ≡ 0) (λ n. stage ≡ suc n) }
+{
+    if stage == 0 { None } else { Some(stage - 1) }
+}
+
+/// The stage after another one. No list is so long that there is none.
+pub fn after(stage: u32) -> Result<u32, AllocError>
+    ensures { IfOk result (λ next. next ≡ suc stage) }
+{
+    if stage == u32::MAX {
+        Err(AllocError)
+    } else {
+        Ok(stage + 1)
+    }
+}
+
+/// The tree of this number, from 0.
+#[tactic(auto, using(crate::proofs::Drops::here_some, crate::proofs::Drops::here_none))]
+pub fn here(trees: &Items<Shared<Tree>>, at: u32) -> Option<&Shared<Tree>>
+    ensures { Here at trees.now (option_copied result) }
+{
+    trees.get(at as usize)
+}

@@ -1,0 +1,54 @@
+-- The ends of parts, as the definitions have them.
+use Rattle.std.specs.Prelude.{◌≡◌, ℕ, List, [], ◌∷◌, ◌++◌}
+use Rattle.sr_conv.specs.Plain.{value_of, option_of, number_stop_of}
+use Rattle.sr_model.specs.Values.{Text}
+use Rattle.sr_model.specs.Outcomes as model
+use Rattle.sr_model.specs.Tasks.{Item, Gave}
+use Rattle.sr_state.specs.declared.ends.Abrupt.{Abrupt}
+use Rattle.sr_state.specs.declared.ends.Abrupt.TheVariants as abrupt
+use Rattle.sr_state.specs.declared.ends.Completion.{Completion}
+use Rattle.sr_state.specs.declared.ends.Completion.TheVariants as completion
+use Rattle.sr_state.specs.declared.ends.StopName.{StopName}
+use Rattle.sr_state.specs.declared.ends.StopName.TheVariants as stop
+use Rattle.sr_state.specs.declared.ends.Answer.{Answer}
+use Rattle.sr_state.specs.declared.ends.Answer.TheVariants as answer
+use Rattle.sr_state.specs.declared.ends.Next.{Next}
+use Rattle.sr_state.specs.declared.ends.Next.TheVariants as next
+
+-- an end otherwise than normally
+abbrev pub abrupt_of : Abrupt → model.AbruptCompletion
+abrupt_of (abrupt.Throw v) = model.Throw (value_of v)
+abrupt_of (abrupt.Return v) = model.Return (value_of v)
+abrupt_of (abrupt.Break label v) = model.Break label (option_of v)
+abrupt_of (abrupt.Continue label v) = model.Continue label (option_of v)
+
+-- an end
+abbrev pub completion_of : Completion → model.Completion
+completion_of (completion.Normal v) = model.Normal (option_of v)
+completion_of (completion.Abrupt x) = model.Abrupt (abrupt_of x)
+
+-- what an answer adds to the list that a row is given
+abbrev pub items_of : Answer → List Item
+items_of answer.Empty = []
+items_of (answer.Done o) = Gave (completion_of o) ∷ []
+
+-- a step ended with this end
+abbrev pub GivesBy : Next → model.Completion → Type 0
+GivesBy (next.Give o) y = completion_of o ≡ y
+GivesBy next.Pushed y = ⊥
+GivesBy (next.Print text) y = ⊥
+GivesBy (next.Halt name) y = ⊥
+
+-- it is this listed stop
+abbrev pub IsStop : StopName → model.Stop → Type 0
+IsStop (stop.Number s) y = model.Number (number_stop_of s) ≡ y
+IsStop stop.StringLength y = model.StringLength ≡ y
+IsStop stop.CallDepth y = model.CallDepth ≡ y
+IsStop (stop.Steps used cost) y = ⊥
+
+-- a step stopped the run by this stop
+abbrev pub HaltsBy : Next → model.Stop → Type 0
+HaltsBy (next.Halt name) y = IsStop name y
+HaltsBy next.Pushed y = ⊥
+HaltsBy (next.Print text) y = ⊥
+HaltsBy (next.Give o) y = ⊥

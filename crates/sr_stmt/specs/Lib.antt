@@ -1,0 +1,5 @@
+pub mod Lists
+pub mod Rows
+pub mod At
+pub mod Declared
+pub mod Scripts
