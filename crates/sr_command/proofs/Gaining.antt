@@ -8,7 +8,7 @@ use Rattle.sr_outside.specs.declared.sink.WriteRefusal.{WriteRefusal}
 use Rattle.sr_outside.specs.declared.sink.WriteRefusal.TheVariants.{Failed, Memory}
 use Rattle.sr_command.specs.declared.status.Status.{Status}
 use Rattle.sr_command.specs.Writes.{Write, out, err, out_bytes, err_bytes, Streams, Gains, here, streams}
-use Rattle.sr_command.specs.Runs.{Ending, line_ending}
+use Rattle.sr_command.specs.Courses.{Course, line_ending}
 use Rattle.sr_command.specs.Reaching.{ComesTo}
 
 -- a stream that is as before gained nothing
@@ -44,9 +44,9 @@ err_gains o before after bytes a = record { out_gained = appends_nothing o o ref
 pub out_gains : (before after e : Option (List ℕ)) (bytes : List ℕ) → Appends before after bytes → Gains (streams before e) (streams after e) (out bytes ∷ [])
 out_gains before after e bytes a = record { out_gained = rw append-nil a; err_gained = appends_nothing e e refl }
 
--- where nothing was written yet and memory ran out, every ending is come to
-pub starved_first : (ending : Ending) (s : Streams) → ComesTo ending (Err Memory) s s
-starved_first ending s = ([], (ending.writes, refl), nothing_gained s)
+-- where nothing was written yet and memory ran out, every course is come to
+pub starved_first : (course : Course) (s : Streams) → ComesTo course (Err Memory) s s
+starved_first course s = ([], (course.writes, refl), nothing_gained s)
 
 -- a last line, of which as much is shown as the sink took
 pub shown_part : {Y : Type 0} (line : List ℕ) (before after : Option (List ℕ)) (r : Result Y WriteRefusal) → OnOk r (Appends before after line)
@@ -60,8 +60,8 @@ pub cut_of_line : (status : Status) (o before after : Option (List ℕ)) (line :
 cut_of_line status o before after line part = (err (take part.0 line) ∷ [], here part.0, err_gains o before after (take part.0 line) part.2)
 
 -- none of it
-pub none_of_line : (ending : Ending) (o before after : Option (List ℕ)) → after ≡ before → ComesTo ending (Err Memory) (streams o before) (streams o after)
-none_of_line ending o before after same = rw same (starved_first ending (streams o before))
+pub none_of_line : (course : Course) (o before after : Option (List ℕ)) → after ≡ before → ComesTo course (Err Memory) (streams o before) (streams o after)
+none_of_line course o before after same = rw same (starved_first course (streams o before))
 
 -- what a write of a line came to
 pub comes_line : (status : Status) (o before after : Option (List ℕ)) (line : List ℕ) (refusal : WriteRefusal) → (refusal ≡ Failed → AppendsPart before after line) → (refusal ≡ Memory → after ≡ before)
@@ -80,5 +80,5 @@ pub is_memory : (r : Result Status WriteRefusal) → IsErrAnd r (λ e. e ≡ Mem
 is_memory (Ok status) is = absurd is
 is_memory (Err e) is = ap Err is
 
-pub starved_on : (r : Result Status WriteRefusal) (ending : Ending) (s : Streams) → IsErrAnd r (λ e. e ≡ Memory) → ComesTo ending r s s
-starved_on r ending s is = rw (is_memory r is) (starved_first ending s)
+pub starved_on : (r : Result Status WriteRefusal) (course : Course) (s : Streams) → IsErrAnd r (λ e. e ≡ Memory) → ComesTo course r s s
+starved_on r course s is = rw (is_memory r is) (starved_first course s)

@@ -1,5 +1,9 @@
 pub mod Gaining
-pub mod Printing
+pub mod Asked
+pub mod Built
+pub mod Turning
+pub mod Running
+pub mod RunEnds
 pub mod Reached
 pub mod Ended
 pub mod RunLaws

@@ -1,43 +1,66 @@
--- Endings that are come to.
-use Rattle.std.proofs.Common.{◌≡◌, ℕ, List, Result, Ok, Err, sym, ◌∙◌, inl, inr, arith}
+-- Courses that are come to.
+use Rattle.std.proofs.Common.{◌≡◌, ℕ, Bool, true, false, List, Result, Ok, Err, Some, ap, ◌∙◌, inl, inr, arith}
 use Rattle.sr_text.specs.Utf8.{IsTooLong}
+use Rattle.sr_model.specs.Values.{Path}
+use Rattle.sr_model.specs.World.{World}
+use Rattle.sr_model.specs.Globals.{Holds}
+use Rattle.sr_worlds.specs.Evaluation.{Done, Over}
+use Rattle.sr_worlds.specs.Live.{Why, Stopped, Steps, Open, Broken, Short, LiveRan}
 use Rattle.sr_outside.specs.declared.loader.Loaded.TheVariants.{Text}
 use Rattle.sr_outside.specs.declared.sink.WriteRefusal.{WriteRefusal}
 use Rattle.sr_outside.specs.declared.sink.WriteRefusal.TheVariants.{Memory}
 use Rattle.sr_command.specs.declared.status.Status.{Status}
 use Rattle.sr_command.specs.declared.status.Status.TheVariants.{ReadFailed}
 use Rattle.sr_command.specs.Writes.{Streams}
-use Rattle.sr_command.specs.Runs.{Ending, not_built, RunsText, no_script, script, RunsFile, not_utf8, text}
+use Rattle.sr_command.specs.Courses.{Course, status_of, is_uncaught, over_course, course_of}
+use Rattle.sr_command.specs.Runs.{not_built, RunsText, no_script, script, RunsFile, not_utf8, text}
 use Rattle.sr_command.specs.Reaching.{ComesTo, Reaches}
+use Rattle.sr_command.proofs.Built.{built_is_short}
 use Rattle.sr_command.proofs.Gaining.{nothing_gained}
 
--- an ending that is come to is reached
-pub reached : {Runs : Ending → Type 0} {r : Result Status WriteRefusal} {old new : Streams} (ending : Ending) → Runs ending → ComesTo ending r old new → Reaches Runs r old new
-reached ending runs comes = inl (ending, runs, comes)
+-- a course that is come to is reached
+pub reached : {Runs : Course → Type 0} {r : Result Status WriteRefusal} {old new : Streams} (course : Course) → Runs course → ComesTo course r old new → Reaches Runs r old new
+reached course runs comes = inl (course, runs, comes)
 
 -- memory ran out before anything was written
-pub ran_out : {Runs : Ending → Type 0} (r : Result Status WriteRefusal) (s : Streams) → r ≡ Err Memory → Reaches Runs r s s
+pub ran_out : {Runs : Course → Type 0} (r : Result Status WriteRefusal) (s : Streams) → r ≡ Err Memory → Reaches Runs r s s
 ran_out r s is = inr (record { memory = is; nothing = nothing_gained s })
 
--- what every ending of one run is of, so is what is reached
-pub reached_along : {Runs Others : Ending → Type 0} {r : Result Status WriteRefusal} {old new : Streams} → ((ending : Ending) → Runs ending → Others ending) → Reaches Runs r old new → Reaches Others r old new
+-- what every course of one run is of, so is what is reached
+pub reached_along : {Runs Others : Course → Type 0} {r : Result Status WriteRefusal} {old new : Streams} → ((course : Course) → Runs course → Others course) → Reaches Runs r old new → Reaches Others r old new
 reached_along f (inl found) = inl (found.0, f found.0 found.1, found.2)
 reached_along f (inr out) = inr out
 
-text_status : {name units : List ℕ} {ending : Ending} → RunsText name units ending → ending.status ≡ ReadFailed → ⊥
-text_status (no_script not) e = cc
-text_status (script is) e = cc
+-- a run of rows never ends as a file that could not be read
+why_status : (bound : ℕ) (why : Why) (realm : Path) (w : World Holds) (course : Course) → over_course bound why realm w ≡ course → course.status ≡ Some ReadFailed → ⊥
+why_status bound (Stopped x) realm w course e h = cc
+why_status bound (Steps cost) realm w course e h = cc
+why_status bound Open realm w course e h = cc
+why_status bound Broken realm w course e h = cc
+why_status bound Short realm w course e h = cc
 
-file_status : {name bytes : List ℕ} {ending : Ending} → RunsFile name (Text bytes) ending → ending.status ≡ ReadFailed → ⊥
+throw_status : (b : Bool) → status_of b ≡ ReadFailed → ⊥
+throw_status true e = cc
+throw_status false e = cc
+
+course_status : (bound : ℕ) (r : LiveRan Holds) (course : Course) → course_of bound r ≡ course → course.status ≡ Some ReadFailed → ⊥
+course_status bound (Done w o m) course e h = throw_status (is_uncaught w.writes) (cc)
+course_status bound (Over w x) course e h = let c = x.place in why_status bound x.why c.realm w course e h
+
+text_status : {bound : ℕ} {name units : List ℕ} {course : Course} → RunsText bound name units course → course.status ≡ Some ReadFailed → ⊥
+text_status (no_script not) e = cc
+text_status {bound = bound} (script {course = course} is runs) e = course_status bound _ course runs.1 e
+
+file_status : {bound : ℕ} {name bytes : List ℕ} {course : Course} → RunsFile bound name (Text bytes) course → course.status ≡ Some ReadFailed → ⊥
 file_status (not_utf8 fault) e = cc
 file_status (text decodes runs) e = text_status runs e
 
 -- a file that was read does not end as one that could not be read
-pub read_not_failed : (name bytes : List ℕ) (r : Result Status WriteRefusal) (old new : Streams) → Reaches (RunsFile name (Text bytes)) r old new → r ≡ Ok ReadFailed → ⊥
-read_not_failed name bytes (Ok status) old new (inl found) e = file_status found.1 (let s : status ≡ ReadFailed = cc in sym found.2.0 ∙ s)
-read_not_failed name bytes (Ok status) old new (inr out) e = let m = out.memory in cc
-read_not_failed name bytes (Err refusal) old new found e = cc
+pub read_not_failed : (bound : ℕ) (name bytes : List ℕ) (r : Result Status WriteRefusal) (old new : Streams) → Reaches (RunsFile bound name (Text bytes)) r old new → r ≡ Ok ReadFailed → ⊥
+read_not_failed bound name bytes (Ok status) old new (inl found) e = file_status found.1 (let s : status ≡ ReadFailed = cc in found.2.0 ∙ ap Some s)
+read_not_failed bound name bytes (Ok status) old new (inr out) e = let m = out.memory in cc
+read_not_failed bound name bytes (Err refusal) old new found e = cc
 
 -- a text that is too long for a string is no script
-pub too_long_runs : (name bytes : List ℕ) → IsTooLong bytes → RunsFile name (Text bytes) (not_built name)
-too_long_runs name bytes long = text long.1 (no_script (λ values is. let short = is.short in let more = long.2 in absurd (omega arith)))
+pub too_long_runs : (bound : ℕ) (name bytes : List ℕ) → IsTooLong bytes → RunsFile bound name (Text bytes) (not_built name)
+too_long_runs bound name bytes long = text long.1 (no_script (λ x is. let short = built_is_short _ x is in let more = long.2 in absurd (omega arith)))

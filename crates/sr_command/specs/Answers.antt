@@ -6,7 +6,8 @@ use Rattle.sr_command.specs.declared.status.Status.{Status}
 use Rattle.sr_command.specs.Status.{code_of}
 use Rattle.sr_command.specs.Reaching.{RanOut, Reaches}
 use Rattle.sr_command.specs.Writes.{Write, err, Streams, Gains, IsCut, IsStart}
-use Rattle.sr_command.specs.Runs.{Ending, Runs}
+use Rattle.sr_command.specs.Courses.{Course}
+use Rattle.sr_command.specs.Runs.{Runs}
 
 -- The loader gave these answers in this call, by what it remembers before and after: none, or one, the latest.
 abbrev pub Gave : Option (List ℕ × Loaded) → Option (List ℕ × Loaded) → List (List ℕ × Loaded) → Type 0
@@ -23,25 +24,27 @@ abbrev pub ReachesRun : List (List ℕ) → Option (List ℕ × Loaded) → Opti
 ReachesRun words before after result old new = ((answers : List (List ℕ × Loaded)) × Gave before after answers × Reaches (Runs words answers) result old new) ⊎ RanOut result old new
 
 module _ (words : List (List ℕ)) (before after : Option (List ℕ × Loaded)) where
-  -- a run of these words with the answers that the loader gave
+  -- how far a run of these words comes, with the answers that the loader gave
   pub record IsRun : Type 0 where
     pub answers : List (List ℕ × Loaded)
     pub gave : Gave before after answers
-    pub ending : Ending
-    pub runs : Runs words answers ending
+    pub course : Course
+    pub runs : Runs words answers course
 
   -- The run came to its end: the status is the run's, and the streams gained exactly its writes.
   pub record Completes (status : ℕ) (old new : Streams) : Type 0 where
     pub run : IsRun
-    pub ended : status ≡ code_of run.ending.status
-    pub wrote : Gains old new run.ending.writes
+    pub how : Status
+    pub ended : run.course.status ≡ Some how
+    pub told : status ≡ code_of how
+    pub wrote : Gains old new run.course.writes
 
   -- A sink failed: the streams gained the first writes of the run whole and a first part of the next, and then a first
   -- part of the line `write failed`.
   pub record BreaksOff (old new : Streams) : Type 0 where
     pub run : IsRun
     pub cut : List Write
-    pub is_cut : IsCut cut run.ending.writes
+    pub is_cut : IsCut cut run.course.writes
     pub shown : ℕ
     pub wrote : Gains old new (cut ++ part_of_line shown (codes "write failed") ∷ [])
 
@@ -50,7 +53,7 @@ module _ (words : List (List ℕ)) (before after : Option (List ℕ × Loaded)) 
   pub record Starves (old new : Streams) : Type 0 where
     pub run : IsRun
     pub start : List Write
-    pub is_start : IsStart start run.ending.writes
+    pub is_start : IsStart start run.course.writes
     pub shown : ℕ
     pub wrote : Gains old new (start ++ part_of_line shown (codes "memory") ∷ [])
 

@@ -1,5 +1,7 @@
 pub mod Words
 pub mod Writes
+pub mod Courses
+pub mod Stops
 pub mod Runs
 pub mod Answers
 pub mod Reaching

@@ -1,15 +1,23 @@
-ghost use Rattle.std.specs.Prelude.{◌≡◌, ◌≤◌, ◌⊎◌, List, ℕ, Option, None, Some, Ok, IfOk, IfSome, IsErrOf};
+ghost use Rattle.std.specs.Prelude.{◌≡◌, ◌≤◌, ◌⊎◌, List, ℕ, Option, Some, Ok, IfOk, IfSome, IsErrOf};
 ghost use Rattle.sr_outside.specs.Counts.{Rose, Raised};
 ghost use Rattle.sr_outside.specs.Loading.{IsHeld};
 ghost use Rattle.sr_outside.specs.declared.loader.Loaded.{Loaded};
 ghost use Rattle.sr_outside.specs.declared.loader.Loaded.TheVariants.{Text};
+ghost use Rattle.sr_ast.specs.Script.{Script};
+ghost use Rattle.sr_machine.specs.Running.{given, thrown_of};
 ghost use Rattle.sr_command.specs.Writes.{streams};
-ghost use Rattle.sr_command.specs.Runs.{line_ending, printed, not_built, RunsText, RunsFile};
+ghost use Rattle.sr_command.specs.Courses.{line_ending};
+ghost use Rattle.sr_command.specs.Stops.{number_name, stop_line, stop_ending, uncaught_line, last_ending};
+ghost use Rattle.sr_command.specs.Runs.{not_built, RunsScript, RunsText, RunsFile};
 ghost use Rattle.sr_command.specs.Reaching.{ComesTo, RanOut, Reaches};
 
 use crate::Status;
-use sr_machine::{Advance, GiveRefusal, Live};
+use sr_ast::ScriptCode;
+use sr_machine::{Advance, Live, StopAt};
+use sr_num::NumStop;
 use sr_outside::{Loaded, Loader, Sink, WriteRefusal};
+use sr_script::read_script;
+use sr_state::StopName;
 use sr_text::{Str, TextRefusal};
 use std::alloc::{AllocError, Global};
 
@@ -43,59 +51,176 @@ pub(crate) fn end_not_built<E: Sink>(
     end_with(line.as_bytes(), Status::NotBuilt, err)
 }
 
-/// Runs what was given to a run to its end.
-fn run_to_end<O: Sink>(live: &mut Live, out: &mut O) -> Result<Status, WriteRefusal>
-    requires { live.old.refused ≡ None }
-    ensures comes { (err : Option (List ℕ)) → ComesTo (printed live.old.left) result (streams (O.written out.old) err) (streams (O.written out.new) err) }
-    ensures cause { IsErrOf result WriteRefusal.Failed → Rose (O.faults out.old) (O.faults out.new) }
-    ensures faults { O.faults out.old ≤ O.faults out.new }
+/// The name of a stop of arithmetic.
+fn number_name(stop: NumStop) -> &'static str
+    ensures { result.now ≡ number_name stop }
+{
+    match stop {
+        NumStop::NegativeZero => "negative zero",
+        NumStop::Fraction => "fraction",
+        NumStop::Infinite => "infinite",
+        NumStop::Unsafe => "unsafe integer",
+        NumStop::Form => "number form",
+    }
+}
+
+/// Ends a run that stopped by a stop of this name, which is in the first realm.
+fn end_by_name<E: Sink>(
+    alloc: Global,
+    name: &str,
+    status: Status,
+    stop: StopAt,
+    err: &mut E,
+) -> Result<Status, WriteRefusal>
+    ensures comes { (out : Option (List ℕ)) → ComesTo (line_ending status (stop_line name.now stop.source stop.at)) result (streams out (E.written err.old)) (streams out (E.written err.new)) }
+    ensures cause { IsErrOf result WriteRefusal.Failed → Rose (E.faults err.old) (E.faults err.new) }
+    ensures faults { E.faults err.old ≤ E.faults err.new }
+{
+    let source = stop.source;
+    let at = stop.at;
+    let line = format!(in alloc; "stop: {name}, realm 0, source {source}, at {at}\n")?;
+    end_with(line.as_bytes(), status, err)
+}
+
+/// Ends a run that stopped, with this bound of steps.
+fn end_by_stop<E: Sink>(
+    alloc: Global,
+    bound: u64,
+    stop: StopAt,
+    err: &mut E,
+) -> Result<Status, WriteRefusal>
+    ensures comes { (out : Option (List ℕ)) → ComesTo (stop_ending bound stop) result (streams out (E.written err.old)) (streams out (E.written err.new)) }
+    ensures cause { IsErrOf result WriteRefusal.Failed → Rose (E.faults err.old) (E.faults err.new) }
+    ensures faults { E.faults err.old ≤ E.faults err.new }
+{
+    match stop.name {
+        StopName::Number(number) => {
+            end_by_name(alloc, number_name(number), Status::Stopped, stop, err)
+        }
+        StopName::StringLength => {
+            end_by_name(alloc, "string length", Status::Stopped, stop, err)
+        }
+        StopName::CallDepth => end_by_name(alloc, "call depth", Status::Stopped, stop, err),
+        StopName::Steps(used, cost) => {
+            let name = format!(in alloc; "steps {used} of {bound}, charge {cost}")?;
+            end_by_name(alloc, name.as_str(), Status::OutOfSteps, stop, err)
+        }
+    }
+}
+
+/// The line of an uncaught throw in a file, by what is told of it.
+fn uncaught_line(alloc: Global, name: &str, text: &Str) -> Result<Vec<u8>, AllocError>
+    ensures { IfOk result (λ line. line.items ≡ uncaught_line name.now text.now) }
+{
+    let mut line = Vec::from_slice(alloc, b"uncaught ")?;
+    line.extend_from_slice(name.as_bytes())?;
+    line.extend_from_slice(b": ")?;
+    line.extend_from_slice(text.to_utf8(alloc)?.as_slice())?;
+    line.push(b'\n')?;
+    Ok(line)
+}
+
+/// Ends a run in which nothing is left to do.
+fn end_of_run<E: Sink>(
+    alloc: Global,
+    name: &str,
+    live: &Live,
+    err: &mut E,
+) -> Result<Status, WriteRefusal>
+    ensures comes { (out : Option (List ℕ)) → let h = live.now.held in ComesTo (last_ending name.now (thrown_of h.answer)) result (streams out (E.written err.old)) (streams out (E.written err.new)) }
+    ensures cause { IsErrOf result WriteRefusal.Failed → Rose (E.faults err.old) (E.faults err.new) }
+    ensures faults { E.faults err.old ≤ E.faults err.new }
+{
+    match live.thrown()? {
+        None => Ok(Status::Ran),
+        Some(text) => {
+            let line = uncaught_line(alloc, name, &text)?;
+            end_with(line.as_slice(), Status::Threw, err)
+        }
+    }
+}
+
+/// Runs a script that was given to a run with this bound of steps, in a file of this name.
+fn run_to_end<O: Sink, E: Sink>(
+    alloc: Global,
+    bound: u64,
+    name: &str,
+    live: &mut Live,
+    out: &mut O,
+    err: &mut E,
+) -> Result<Status, WriteRefusal>
+    requires { (x : Script) × (live.old ≡ given bound x) }
+    ensures reaches { (text : List ℕ) (x : Script) → live.old ≡ given bound x → Reaches (RunsScript bound name.now text x) result (streams (O.written out.old) (E.written err.old)) (streams (O.written out.new) (E.written err.new)) }
+    ensures cause { IsErrOf result WriteRefusal.Failed → Rose (O.faults out.old) (O.faults out.new) ⊎ Rose (E.faults err.old) (E.faults err.new) }
+    ensures out_faults { O.faults out.old ≤ O.faults out.new }
+    ensures err_faults { E.faults err.old ≤ E.faults err.new }
 {
     'steps: loop {
         match live.advance(out) {
             Advance::Going => continue 'steps,
-            Advance::Done => return Ok(Status::Ran),
+            Advance::Done => return end_of_run(alloc, name, live, err),
+            Advance::Stop(stop) => return end_by_stop(alloc, bound, stop, err),
             Advance::Write => return Err(WriteRefusal::Failed),
             Advance::Memory => return Err(WriteRefusal::Memory),
         }
     }
 }
 
+/// Runs a script of a file of this name, with this bound of steps.
+fn run_script<O: Sink, E: Sink>(
+    alloc: Global,
+    bound: u64,
+    name: &str,
+    script: ScriptCode,
+    out: &mut O,
+    err: &mut E,
+) -> Result<Status, WriteRefusal>
+    ensures reaches { (text : List ℕ) → Reaches (RunsScript bound name.now text script) result (streams (O.written out.old) (E.written err.old)) (streams (O.written out.new) (E.written err.new)) }
+    ensures cause { IsErrOf result WriteRefusal.Failed → Rose (O.faults out.old) (O.faults out.new) ⊎ Rose (E.faults err.old) (E.faults err.new) }
+    ensures out_faults { O.faults out.old ≤ O.faults out.new }
+    ensures err_faults { E.faults err.old ≤ E.faults err.new }
+{
+    let mut live = Live::open(alloc, bound)?;
+    live.give_script(script)?;
+    run_to_end(alloc, bound, name, &mut live, out, err)
+}
+
 /// Runs a text that a file of this name has.
 fn run_text<O: Sink, E: Sink>(
     alloc: Global,
+    bound: u64,
     name: &str,
     text: &Str,
     out: &mut O,
     err: &mut E,
 ) -> Result<Status, WriteRefusal>
-    ensures reaches { Reaches (RunsText name.now text.now) result (streams (O.written out.old) (E.written err.old)) (streams (O.written out.new) (E.written err.new)) }
+    ensures reaches { Reaches (RunsText bound name.now text.now) result (streams (O.written out.old) (E.written err.old)) (streams (O.written out.new) (E.written err.new)) }
     ensures cause { IsErrOf result WriteRefusal.Failed → Rose (O.faults out.old) (O.faults out.new) ⊎ Rose (E.faults err.old) (E.faults err.new) }
     ensures out_faults { O.faults out.old ≤ O.faults out.new }
     ensures err_faults { E.faults err.old ≤ E.faults err.new }
 {
-    let mut live = Live::open(alloc);
-    match live.give(text) {
-        Ok(()) => run_to_end(&mut live, out),
-        Err(GiveRefusal::NotBuilt) => end_not_built(alloc, name, err),
-        Err(GiveRefusal::Memory) => Err(WriteRefusal::Memory),
+    match read_script(alloc, text)? {
+        Some(script) => run_script(alloc, bound, name, script, out, err),
+        None => end_not_built(alloc, name, err),
     }
 }
 
 /// Runs a file of this name and these bytes.
 fn run_bytes<O: Sink, E: Sink>(
     alloc: Global,
+    bound: u64,
     name: &str,
     bytes: &[u8],
     out: &mut O,
     err: &mut E,
 ) -> Result<Status, WriteRefusal>
-    ensures reaches { Reaches (RunsFile name.now (Text bytes.now)) result (streams (O.written out.old) (E.written err.old)) (streams (O.written out.new) (E.written err.new)) }
+    ensures reaches { Reaches (RunsFile bound name.now (Text bytes.now)) result (streams (O.written out.old) (E.written err.old)) (streams (O.written out.new) (E.written err.new)) }
     ensures cause { IsErrOf result WriteRefusal.Failed → Rose (O.faults out.old) (O.faults out.new) ⊎ Rose (E.faults err.old) (E.faults err.new) }
     ensures out_faults { O.faults out.old ≤ O.faults out.new }
     ensures err_faults { E.faults err.old ≤ E.faults err.new }
 {
     match Str::from_utf8(alloc, bytes) {
-        Ok(text) => run_text(alloc, name, &text, out, err),
+        Ok(text) => run_text(alloc, bound, name, &text, out, err),
         Err(TextRefusal::NotUtf8(at)) => {
             let line = format!(in alloc; "not UTF-8: {name} at {at}\n")?;
             end_with(line.as_bytes(), Status::NoText, err)
@@ -108,13 +233,14 @@ fn run_bytes<O: Sink, E: Sink>(
 /// Loads a file and runs it.
 pub(crate) fn run_file<L: Loader, O: Sink, E: Sink>(
     alloc: Global,
+    bound: u64,
     name: &str,
     loader: &mut L,
     out: &mut O,
     err: &mut E,
 ) -> Result<Status, WriteRefusal>
     ensures reaches { ((answer : Loaded) × (L.last loader.new ≡ Some (name.now, answer))
-        × Reaches (RunsFile name.now answer) result (streams (O.written out.old) (E.written err.old)) (streams (O.written out.new) (E.written err.new)))
+        × Reaches (RunsFile bound name.now answer) result (streams (O.written out.old) (E.written err.old)) (streams (O.written out.new) (E.written err.new)))
         ⊎ RanOut result (streams (O.written out.old) (E.written err.old)) (streams (O.written out.new) (E.written err.new)) }
     ensures asked_once { Raised (L.calls loader.old) (L.calls loader.new) }
     ensures honest { L.faults loader.new ≡ L.faults loader.old → IfSome (L.last loader.new) (λ last. IsHeld (L.held loader.old) name.now (Ok last.1)) }
@@ -124,7 +250,7 @@ pub(crate) fn run_file<L: Loader, O: Sink, E: Sink>(
     ensures err_faults { E.faults err.old ≤ E.faults err.new }
 {
     match loader.load(name.as_bytes())? {
-        Loaded::Text(bytes) => run_bytes(alloc, name, bytes.as_slice(), out, err),
+        Loaded::Text(bytes) => run_bytes(alloc, bound, name, bytes.as_slice(), out, err),
         Loaded::Absent => {
             let line = format!(in alloc; "absent: {name}\n")?;
             end_with(line.as_bytes(), Status::NoText, err)

@@ -6,8 +6,14 @@ ghost use Rattle.sr_command.specs.Status.{code_of};
 pub enum Status {
     /// The file ran to its end.
     Ran = 0,
+    /// The file ended in a throw.
+    Threw = 1,
     /// The words are not of the command.
     WordsRefused = 2,
+    /// The run stopped by a listed stop.
+    Stopped = 3,
+    /// The next charge would pass the bound.
+    OutOfSteps = 4,
     /// There is no such file, or it is not UTF-8.
     NoText = 5,
     /// The file could not be read.

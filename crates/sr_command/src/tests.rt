@@ -170,6 +170,88 @@ const CASES: &[Case] = &[
     },
 ];
 
+/// A call of the command on a text, where no load and no write fails: what is written, and the status.
+struct Run {
+    words: &'static [&'static str],
+    text: &'static [u8],
+    out: &'static [u8],
+    err: &'static [u8],
+    status: u8,
+}
+
+const RUNS: &[Run] = &[
+    Run {
+        words: &["a.js"],
+        text: b"print(1); print(0*-1)",
+        out: b"1\n",
+        err: b"stop: negative zero, realm 0, source 1, at 19\n",
+        status: 3,
+    },
+    Run {
+        words: &["a.js"],
+        text: b"print(9007199254740991); print(9007199254740991 + 1)",
+        out: b"9007199254740991\n",
+        err: b"stop: unsafe integer, realm 0, source 1, at 50\n",
+        status: 3,
+    },
+    Run {
+        words: &["--steps", "50", "a.js"],
+        text: b"print(\"a\"); for(;;){}",
+        out: b"a\n",
+        err: b"stop: steps 50 of 50, charge 1, realm 0, source 1, at 19\n",
+        status: 4,
+    },
+    Run {
+        words: &["a.js"],
+        text: b"var x = \"ab\"; for (var i = 0; i < 24; i++) x = x + x;",
+        out: b"",
+        err: b"stop: string length, realm 0, source 1, at 51\n",
+        status: 3,
+    },
+    Run {
+        words: &["a.js"],
+        text: b"var x = \"ab\"; for (var i = 0; i < 23; i++) x = x + x;",
+        out: b"",
+        err: b"",
+        status: 0,
+    },
+    Run {
+        words: &["a.js"],
+        text: b"var s = \"10\"; print(s - 3, s + 3, 7 % 0, 1 << 33)",
+        out: b"7 103 NaN 2\n",
+        err: b"",
+        status: 0,
+    },
+    Run {
+        words: &["--steps", "0", "a.js"],
+        text: TWO,
+        out: b"",
+        err: b"words refused\n",
+        status: 2,
+    },
+    Run {
+        words: &["--steps", "007", "a.js"],
+        text: TWO,
+        out: b"",
+        err: b"words refused\n",
+        status: 2,
+    },
+    Run {
+        words: &["--steps", "1000000001", "a.js"],
+        text: TWO,
+        out: b"",
+        err: b"words refused\n",
+        status: 2,
+    },
+    Run {
+        words: &["--steps", "1000000000", "a.js"],
+        text: TWO,
+        out: b"1\n2\n",
+        err: b"",
+        status: 0,
+    },
+];
+
 fn words_of(alloc: Global, words: &[&str]) -> Result<Vec<String>, AllocError> {
     let mut all = Vec::new(alloc);
     for word in words {
@@ -200,6 +282,22 @@ fn calls_with_failing_loads_and_writes(rt: HostRuntime) -> Result<(), Fail> {
         assert_eq!(rt; out.bytes(), case.out);
         assert_eq!(rt; err.bytes(), case.err);
         assert_eq!(rt; status, case.status);
+    }
+    Ok(())
+}
+
+#[test]
+fn calls_on_texts(rt: HostRuntime) -> Result<(), Fail> {
+    let alloc = rt.alloc();
+    for run in RUNS {
+        let words = words_of(alloc, run.words)?;
+        let mut loader = SureLoader::of(alloc, files_of(alloc, run.text)?);
+        let mut out = SureSink::new(alloc);
+        let mut err = SureSink::new(alloc);
+        let status = shadow_run(alloc, &words, &mut loader, &mut out, &mut err);
+        assert_eq!(rt; out.bytes(), run.out);
+        assert_eq!(rt; err.bytes(), run.err);
+        assert_eq!(rt; status, run.status);
     }
     Ok(())
 }

@@ -7,7 +7,7 @@ ghost use Rattle.sr_command.specs.Answers.{ReachesRun, Completes, BreaksOff, Sta
 
 use crate::Status;
 use crate::run::{end_not_built, end_with, run_file};
-use crate::words::{file_name, is_unbuilt};
+use crate::words::{command, is_unbuilt};
 use sr_outside::{Loader, Sink, WriteRefusal};
 use std::alloc::Global;
 
@@ -19,13 +19,17 @@ const OUT_OF_MEMORY: u8 = 8;
 
 /// Does all that the command does, and answers the status of the process.
 ///
-/// The words are those after the program's name. The file that they name is asked from the loader, run as a script, and
-/// what it prints goes to `out`, each line as one write; a line that names the cause of another end goes to `err`.
+/// The words are those after the program's name: `FILE`, or `--steps N FILE` with a bound of steps. The file is asked from
+/// the loader, run as a script, and what it prints goes to `out`, each line as one write; a line that names the cause of
+/// another end goes to `err`.
 ///
 /// | Status | Cause |
 /// |---|---|
 /// | 0 | the file ran to its end |
+/// | 1 | the file ended in a throw |
 /// | 2 | the words are not of the command |
+/// | 3 | the run stopped by a listed stop |
+/// | 4 | the next charge would pass the bound of steps |
 /// | 5 | there is no such file, or it is not UTF-8 |
 /// | 6 | the loader failed, and its count of faults rose in this call |
 /// | 7 | a sink failed, and its count of faults rose in this call |
@@ -84,11 +88,11 @@ fn run_words<L: Loader, O: Sink, E: Sink>(
     ensures out_faults { O.faults out.old ≤ O.faults out.new }
     ensures err_faults { E.faults err.old ≤ E.faults err.new }
 {
-    let Some(name) = file_name(words) else {
+    let Some(asked) = command(words) else {
         return end_with(b"words refused\n", Status::WordsRefused, err);
     };
-    if is_unbuilt(name) {
-        return end_not_built(alloc, name, err);
+    if is_unbuilt(asked.name) {
+        return end_not_built(alloc, asked.name, err);
     }
-    run_file(alloc, name, loader, out, err)
+    run_file(alloc, asked.bound, asked.name, loader, out, err)
 }

@@ -1,2 +1,11 @@
-pub mod Statements
-pub mod ScriptLaws
+pub mod Worlds
+pub mod Uses
+pub mod Dispatch
+pub mod Machine
+pub mod Measure
+pub mod Goes
+pub mod Fair
+pub mod RowLaws
+pub mod Advances
+pub mod Grows
+pub mod Begins

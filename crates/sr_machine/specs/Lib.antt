@@ -1,4 +1,5 @@
-pub mod Scripts
-pub mod Reading
+pub mod Language
+pub mod Rest
+pub mod Going
 pub mod Running
-pub mod Advancing
+pub mod Rules

@@ -1,54 +1,77 @@
--- A run as contracts see it, and one step of it.
-use Rattle.std.specs.Prelude.{◌≡◌, ℕ, List, [], ◌∷◌, ◌++◌, length, Option, None, Some}
-use Rattle.std.specs.Io.KnownBytes.{Appends}
-use Rattle.sr_text.specs.Encoding.{utf8_of}
+-- A run as contracts see it, and its steps.
+use Rattle.std.specs.Prelude.{◌≡◌, ℕ, List, [], ◌∷◌, Option, None, Some}
 use Rattle.sr_outside.specs.Writing.{AppendsPart}
-use Rattle.sr_outside.specs.declared.sink.WriteRefusal.{WriteRefusal}
-use Rattle.sr_outside.specs.declared.sink.WriteRefusal.TheVariants.{Failed, Memory}
+use Rattle.sr_ast.specs.Script.{Script}
+use Rattle.sr_model.specs.Values.{Text}
+use Rattle.sr_model.specs.World.{Printed}
+use Rattle.sr_state.specs.declared.frame.Frame.{Frame}
+use Rattle.sr_state.specs.declared.frame.Activity.TheVariants as activity
+use Rattle.sr_conv.specs.Plain.{value_of}
+use Rattle.sr_conv.specs.Reports.{report}
+use Rattle.sr_state.specs.declared.ends.Answer.{Answer}
+use Rattle.sr_state.specs.declared.ends.Answer.TheVariants as answer
+use Rattle.sr_state.specs.declared.ends.Completion.TheVariants as completion
+use Rattle.sr_state.specs.declared.ends.Abrupt.TheVariants as abrupt
+use Rattle.sr_state.specs.Held.{Held, Side, first}
+use Rattle.sr_machine.specs.declared.live.Ended.{Ended}
+use Rattle.sr_machine.specs.declared.live.Ended.TheVariants as ended
+use Rattle.sr_machine.specs.declared.live.Advance.{Advance}
+use Rattle.sr_machine.specs.declared.live.Advance.TheVariants as advance
+use Rattle.sr_machine.specs.declared.live.StopAt.{StopAt}
+use Rattle.sr_machine.specs.Rest.{Waiting}
+use Rattle.sr_machine.specs.Going.{line_of, IsStack, Goes, StopsBy}
 
--- What is left of a run: the strings that are still to be printed, and the refused write that ended it.
+-- the state, and what ended the run
 pub record Running : Type 0 where
-  pub left : List (List ℕ)
-  pub refused : Option WriteRefusal
+  pub held : Held
+  pub over : Option Ended
 
--- a run that no write has ended, with these strings to be printed
-abbrev pub open_with : List (List ℕ) → Running
-open_with values = record { left = values; refused = None }
+-- a run to which nothing was given
+abbrev pub opened : ℕ → Running
+opened bound = record { held = first bound; over = None }
 
--- the run, ended by this refusal
-abbrev pub refused_by : WriteRefusal → Running → Running
-refused_by refusal run = record run { refused = Some refusal }
+-- a frame that begins a script
+abbrev pub script_frame : Script → Frame
+script_frame x = record { activity = activity.Script 0 x; stage = 0; kept = []; calls = 0 }
 
--- what is printed for a string: the string in UTF-8, and a newline
-abbrev pub line_of : List ℕ → List ℕ
-line_of value = utf8_of value ++ 0x0A ∷ []
+-- a run to which a script was given
+abbrev pub given : ℕ → Script → Running
+given bound x = (let h = first bound in record { held = record h { frames = script_frame x ∷ [] }; over = None })
 
--- a step prints the first string that is left, and with none left nothing
-abbrev pub Prints : List (List ℕ) → List (List ℕ) → Option (List ℕ) → Option (List ℕ) → Type 0
-Prints [] left before after = (left ≡ []) × (after ≡ before)
-Prints (value ∷ values) left before after = (left ≡ values) × Appends before after (line_of value)
+-- the answer after the end
+abbrev pub answer_of : Ended → Advance
+answer_of (ended.Stop s) = advance.Stop s
+answer_of ended.Write = advance.Write
+answer_of ended.Memory = advance.Memory
 
--- a step prints a first part of the next line
-abbrev pub PrintsPart : List (List ℕ) → Option (List ℕ) → Option (List ℕ) → Type 0
-PrintsPart [] before after = ⊥
-PrintsPart (value ∷ values) before after = AppendsPart before after (line_of value)
+-- what ended the run is remembered
+abbrev pub Remembers : Advance → Option Ended → Type 0
+Remembers advance.Going over = Unit {0}
+Remembers advance.Done over = Unit {0}
+Remembers (advance.Stop s) over = over ≡ Some (ended.Stop s)
+Remembers advance.Write over = over ≡ Some ended.Write
+Remembers advance.Memory over = over ≡ Some ended.Memory
 
--- One step of a run that is open and stays so, with what the sink has written before and after.
-pub record IsStep (old new : Running) (before after : Option (List ℕ)) : Type 0 where
-  pub was_open : old.refused ≡ None
-  pub still_open : new.refused ≡ None
-  pub printed : Prints old.left new.left before after
+-- the start of the last tree whose charge was paid
+abbrev pub IsLastPlace : StopAt → Side → Type 0
+IsLastPlace s x = (let r = x.realm in let i = r.inner in let h = i.rest in let l = h.last in (s.source ≡ l.source) × (s.at ≡ l.at))
 
--- a step that a failing sink ended
-pub record IsBroken (old new : Running) (before after : Option (List ℕ)) : Type 0 where
-  pub ended : new ≡ refused_by Failed old
-  pub part : PrintsPart old.left before after
+module _ (read : Text → Option Script) where
+  -- the run stopped
+  abbrev pub Stopped : StopAt → Held → Held → Type 0
+  Stopped s old new = StopsBy read s.name old new × IsLastPlace s new.side
 
--- a step that want of memory ended
-pub record IsStarved (old new : Running) (before after : Option (List ℕ)) : Type 0 where
-  pub ended : new ≡ refused_by Memory old
-  pub nothing : after ≡ before
+  -- a failing sink took a first part of the next line of the run
+  abbrev pub BreaksOff : Held → Option (List ℕ) → Option (List ℕ) → Type 0
+  BreaksOff old before after =
+      (tasks : Waiting) → IsStack read old tasks →
+      (text : Text) × (next : Held) × AppendsPart before after (line_of text) × Goes read old next (Printed text ∷ []) tasks
 
--- the number that falls at each step after which more is to do
-abbrev pub left_of : Running → ℕ
-left_of run = length run.left
+-- the report of the throw in which the script ended
+abbrev pub thrown_of : Answer → Option Text
+thrown_of answer.Empty = None
+thrown_of (answer.Done (completion.Normal v)) = None
+thrown_of (answer.Done (completion.Abrupt (abrupt.Throw v))) = Some (report (value_of v))
+thrown_of (answer.Done (completion.Abrupt (abrupt.Return v))) = None
+thrown_of (answer.Done (completion.Abrupt (abrupt.Break label v))) = None
+thrown_of (answer.Done (completion.Abrupt (abrupt.Continue label v))) = None

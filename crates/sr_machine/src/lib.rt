@@ -1,14 +1,9 @@
-//! The run of a script: what is built of the language, and the loop over its steps.
+//! The run of a script: the loop over frames.
 #![tactic(auto)]
 
-/// The laws of the definitions.
-pub mod laws;
 /// A run, step by step.
 mod live;
-/// Reading a script.
-mod script;
+/// What is told of an uncaught throw.
+mod reports;
 
-pub use live::{Advance, GiveRefusal, Live};
-
-#[cfg(test)]
-mod tests;
+pub use live::{Advance, Live, StopAt};

@@ -1,17 +1,35 @@
-ghost use Rattle.std.specs.Prelude.{◌≡◌, ◌≤◌, ◌<◌, List, ℕ, Some, None, [], OnOk, OnErr, IfOk, IfSome, IsErrOf, length};
+ghost use Rattle.std.specs.Prelude.{◌≡◌, ◌≤◌, ◌<◌, List, ℕ, Some, None, [], ◌∷◌, OnOk, IfOk, IfSome, IsErrOf, Option};
 ghost use Rattle.std.specs.Io.KnownBytes.{Appends};
+ghost use Rattle.sr_ast.specs.Script.{Script};
+ghost use Rattle.sr_ast.specs.declared.tree.Node.{out-Node};
+ghost use Rattle.sr_model.specs.Values.{Text};
 ghost use Rattle.sr_outside.specs.Counts.{Rose};
 ghost use Rattle.sr_outside.specs.Writing.{AppendsPart};
-ghost use Rattle.sr_machine.specs.Scripts.{IsScript};
-ghost use Rattle.sr_machine.specs.Running.{open_with, refused_by, line_of, left_of, IsStep, IsBroken, IsStarved};
-ghost use Rattle.sr_machine.specs.Advancing.{answer_of};
+ghost use Rattle.sr_machine.specs.Going.{line_of, left_of, GoesOn};
+ghost use Rattle.sr_machine.specs.Language as language;
+ghost use Rattle.sr_machine.specs.Rules as machine;
+ghost use Rattle.sr_machine.specs.Rules.{printed, FrameSteps};
+ghost use Rattle.sr_machine.specs.Running.{opened, given, answer_of, thrown_of, Remembers, Stopped, BreaksOff};
 
-use crate::script::read_script;
+use crate::reports::report;
+use sqlite_items::Items;
+use sr_ast::{Node, ScriptCode};
 use sr_outside::{Sink, WriteRefusal};
+use sr_state::{Abrupt, Activity, Answer, Completion, Frame, Next, State, StopName};
 use sr_text::Str;
 use std::alloc::{AllocError, Global};
 use std::marker::Model;
-use thiserror::Error;
+
+/// A stop, and the source and the start of the last tree whose charge was paid. Places are counted in code units.
+#[derive(Clone, Copy, Debug, PartialEq, Eq)]
+pub struct StopAt {
+    /// Its name.
+    pub name: StopName,
+    /// The number of the source, and 0 where no tree has paid.
+    pub source: u32,
+    /// The start of the tree.
+    pub at: usize,
+}
 
 /// What a step of a run came to.
 #[derive(Clone, Copy, Debug, PartialEq, Eq)]
@@ -20,141 +38,254 @@ pub enum Advance {
     Going,
     /// Nothing is left to do.
     Done,
+    /// The run stopped, in this step or an earlier one.
+    Stop(StopAt),
     /// The sink failed, in this step or an earlier one.
     Write,
     /// Want of memory, in this step or an earlier one.
     Memory,
 }
 
-/// Why a text cannot be given to a run.
-#[derive(Clone, Copy, Debug, PartialEq, Eq, Error)]
-pub enum GiveRefusal {
-    /// The text is no script that is built.
-    #[error("not built")]
-    NotBuilt,
+/// What ended a run before its end.
+#[derive(Clone, Copy, Debug, PartialEq, Eq)]
+pub enum Ended {
+    /// A stop.
+    Stop(StopAt),
+    /// A write that the sink refused.
+    Write,
     /// Want of memory.
-    #[error("out of memory")]
     Memory,
 }
 
-/// The run of scripts, one after another. Contracts see the strings that are still to be printed.
-#[derive(Drop)]
+/// The rules by which a frame goes on.
+#[derive(Clone, Copy, Debug, PartialEq, Eq)]
+enum Rules {
+    /// Those of statements and scripts.
+    Statements,
+    /// Those of expressions.
+    Expressions,
+    /// Those of built-in functions.
+    BuiltIns,
+}
+
+/// The run of a script.
 pub struct Live {
     alloc: Global,
-    statements: Vec<Str>,
-    next: usize,
-    refused: Option<WriteRefusal>,
+    state: State,
+    over: Option<Ended>,
+}
+
+// Written by hand, so that the crates above prove nothing of how a state is dropped.
+impl Drop for Live {
+    fn drop(self) {
+        let Live {
+            alloc: _,
+            state,
+            over: _,
+        } = self;
+        drop(state);
+    }
 }
 
 impl Model for Live {
-    ghost use Rattle.std.specs.Prelude.{◌≤◌, drop, vec_len};
+    ghost use Rattle.std.specs.Coded.{codes};
+    ghost use Rattle.sr_ast.specs.contracts.tree.Tree as kind;
     ghost use Rattle.sr_machine.specs.Running.{Running};
 
     ghost Value = { Running };
 
-    ghost view = { λ live. record { left = drop live.next live.statements.items; refused = live.refused } };
+    ghost coded = { Prim.hlevel (codes, kind.the_row.coded) };
 
-    ghost invariant = { λ live. live.next ≤ vec_len live.statements };
+    ghost view = { λ live. record { held = live.state; over = live.over } };
 }
 
 impl Live {
-    /// A run to which nothing was given yet.
-    pub fn open(alloc: Global) -> Live
-        ensures { result ≡ open_with [] }
+    /// A run with this bound of steps, to which nothing was given yet.
+    pub fn open(alloc: Global, bound: u64) -> Result<Live, AllocError>
+        ensures { IfOk result (λ live. live ≡ opened bound) }
     {
-        Live {
+        Ok(Live {
             alloc,
-            statements: Vec::new(alloc),
-            next: 0,
-            refused: None,
+            state: State::new(alloc, bound)?,
+            over: None,
+        })
+    }
+
+    /// Gives the run a script to run.
+    pub fn give_script(&mut self, script: ScriptCode) -> Result<(), AllocError>
+        ensures { OnOk result ((bound : ℕ) → self.old ≡ opened bound → self.new ≡ given bound script) }
+    {
+        self.state.push(Frame {
+            activity: Activity::Script(0, script),
+            stage: 0,
+            kept: Items::new(self.alloc),
+            calls: 0,
+        })
+    }
+
+    /// The report of the throw in which the script ended, once nothing is left to do; none where it ended normally.
+    pub fn thrown(&self) -> Result<Option<Str>, AllocError>
+        ensures { IfOk result (λ text. text ≡ (let h = self.now.held in thrown_of h.answer)) }
+    {
+        match self.state.answer() {
+            Answer::Done(Completion::Abrupt(Abrupt::Throw(value))) => {
+                Ok(Some(report(self.alloc, value)?))
+            }
+            Answer::Done(Completion::Abrupt(Abrupt::Return(_))) => Ok(None),
+            Answer::Done(Completion::Abrupt(Abrupt::Break(_, _))) => Ok(None),
+            Answer::Done(Completion::Abrupt(Abrupt::Continue(_, _))) => Ok(None),
+            Answer::Done(Completion::Normal(_)) => Ok(None),
+            Answer::Empty => Ok(None),
         }
     }
 
-    /// Gives the run a text to run as a script. `NotBuilt` comes exactly where it is no script that is built. After a
-    /// refusal the run is as before.
-    pub fn give(&mut self, text: &Str) -> Result<(), GiveRefusal>
-        requires { self.old ≡ open_with [] }
-        ensures script { OnOk result (IsScript text.now self.new.left) }
-        ensures open { OnOk result (self.new.refused ≡ None) }
-        ensures not_built { IsErrOf result GiveRefusal.NotBuilt → (values : List (List ℕ)) → ¬ (IsScript text.now values) }
-        ensures unchanged { OnErr result (self.new ≡ self.old) }
-    {
-        let statements = match read_script(self.alloc, text) {
-            Ok(Some(statements)) => statements,
-            Ok(None) => return Err(GiveRefusal::NotBuilt),
-            Err(AllocError) => return Err(GiveRefusal::Memory),
-        };
-        self.statements = statements;
-        self.next = 0;
-        Ok(())
-    }
-
-    /// Takes one step: runs the next statement, whose line is one write. After a refused write the run has ended, and
-    /// every further step answers the same and does nothing.
+    /// Takes one step, in which at most one charge is paid and at most one line is printed, as one write. After a stop, a
+    /// refused write or want of memory every further step answers the same and does nothing.
     pub fn advance<O: Sink>(&mut self, out: &mut O) -> Advance
-        ensures going { result ≡ Advance.Going → IsStep self.old self.new (O.written out.old) (O.written out.new) }
-        ensures more { result ≡ Advance.Going → 0 < length self.new.left }
-        ensures done { result ≡ Advance.Done → IsStep self.old self.new (O.written out.old) (O.written out.new) }
-        ensures none_left { result ≡ Advance.Done → self.new.left ≡ [] }
-        ensures write { result ≡ Advance.Write → self.old.refused ≡ None → IsBroken self.old self.new (O.written out.old) (O.written out.new) }
-        ensures cause { result ≡ Advance.Write → self.old.refused ≡ None → Rose (O.faults out.old) (O.faults out.new) }
-        ensures memory { result ≡ Advance.Memory → self.old.refused ≡ None → IsStarved self.old self.new (O.written out.old) (O.written out.new) }
-        ensures ended { IfSome self.old.refused (λ refusal. result ≡ answer_of refusal) }
-        ensures unchanged { IfSome self.old.refused (λ _. self.new ≡ self.old) }
-        ensures unwritten { IfSome self.old.refused (λ _. O.written out.new ≡ O.written out.old) }
+        ensures going { result ≡ Advance.Going → (read : Text → Option Script) → GoesOn read self.old.held self.new.held (O.written out.old) (O.written out.new) }
+        ensures on { result ≡ Advance.Going → self.new.over ≡ None }
+        ensures over { Remembers result self.new.over }
+        ensures done { result ≡ Advance.Done → (self.old.held.frames ≡ []) × (self.new ≡ self.old) }
+        ensures done_unwritten { result ≡ Advance.Done → O.written out.new ≡ O.written out.old }
+        ensures stop { self.old.over ≡ None → (s : _) → result ≡ Advance.Stop s → (read : Text → Option Script) → Stopped read s self.old.held self.new.held }
+        ensures stop_unwritten { (s : _) → result ≡ Advance.Stop s → O.written out.new ≡ O.written out.old }
+        ensures write { result ≡ Advance.Write → self.old.over ≡ None → (read : Text → Option Script) → BreaksOff read self.old.held (O.written out.old) (O.written out.new) }
+        ensures cause { result ≡ Advance.Write → self.old.over ≡ None → Rose (O.faults out.old) (O.faults out.new) }
+        ensures memory { result ≡ Advance.Memory → O.written out.new ≡ O.written out.old }
+        ensures ended { IfSome self.old.over (λ end. (result ≡ answer_of end) × (self.new ≡ self.old) × (O.written out.new ≡ O.written out.old)) }
         ensures faults { O.faults out.old ≤ O.faults out.new }
-        ensures falls { result ≡ Advance.Going → left_of self.new < left_of self.old }
     {
-        if let Some(refusal) = self.refused {
-            return answer_to(refusal);
+        if let Some(end) = self.over {
+            return answer_to(end);
         }
-        let Some(value) = self.statements.get(self.next) else {
+        let Some(frame) = self.state.pop() else {
             return Advance::Done;
         };
-        match print(self.alloc, value, out) {
-            Ok(()) => {
-                self.next += 1;
-                if self.next < self.statements.len() {
-                    Advance::Going
-                } else {
-                    Advance::Done
-                }
+        match step(self.alloc, &mut self.state, frame) {
+            Err(_) => self.end_by(Ended::Memory),
+            Ok(Next::Pushed) => Advance::Going,
+            Ok(Next::Give(end)) => {
+                self.state.put_answer(Answer::Done(end));
+                Advance::Going
             }
-            Err(refusal) => {
-                self.refused = Some(refusal);
-                answer_to(refusal)
+            Ok(Next::Print(text)) => self.print(text, out),
+            Ok(Next::Halt(name)) => {
+                let stop = StopAt {
+                    name,
+                    source: self.state.last_source(),
+                    at: self.state.last_at(),
+                };
+                self.end_by(Ended::Stop(stop))
             }
         }
     }
-}
 
-/// The answer of a step whose write was refused.
-fn answer_to(refusal: WriteRefusal) -> Advance
-    ensures { result ≡ answer_of refusal }
-{
-    match refusal {
-        WriteRefusal::Failed => Advance::Write,
-        WriteRefusal::Memory => Advance::Memory,
+    /// Prints a line of the frame on top, and gives that an empty end.
+    fn print<O: Sink>(&mut self, text: Str, out: &mut O) -> Advance
+        ensures going { result ≡ Advance.Going → (self.new ≡ (let r = self.old in record r { held = printed text r.held })) × Appends (O.written out.old) (O.written out.new) (line_of text) }
+        ensures others { (result ≡ Advance.Done → ⊥) × ((s : _) → result ≡ Advance.Stop s → ⊥) }
+        ensures write { result ≡ Advance.Write → AppendsPart (O.written out.old) (O.written out.new) (line_of text) × Rose (O.faults out.old) (O.faults out.new) }
+        ensures memory { result ≡ Advance.Memory → O.written out.new ≡ O.written out.old }
+        ensures over { Remembers result self.new.over }
+        ensures faults { O.faults out.old ≤ O.faults out.new }
+    {
+        match print_line(self.alloc, &mut self.state, text, out) {
+            Ok(()) => Advance::Going,
+            Err(WriteRefusal::Failed) => self.end_by(Ended::Write),
+            Err(WriteRefusal::Memory) => self.end_by(Ended::Memory),
+        }
+    }
+
+    /// The run ends here.
+    fn end_by(&mut self, end: Ended) -> Advance
+        ensures answer { result ≡ answer_of end }
+        ensures over { self.new ≡ (let r = self.old in record r { over = Some end }) }
+    {
+        self.over = Some(end);
+        answer_to(end)
     }
 }
 
-/// Prints a string and a newline, as one write.
-fn print<O: Sink>(alloc: Global, value: &Str, out: &mut O) -> Result<(), WriteRefusal>
-    ensures ok { OnOk result (Appends (O.written out.old) (O.written out.new) (line_of value.now)) }
-    ensures faults { O.faults out.old ≤ O.faults out.new }
-    ensures failed { IsErrOf result WriteRefusal.Failed → Rose (O.faults out.old) (O.faults out.new) }
-    ensures part { IsErrOf result WriteRefusal.Failed → AppendsPart (O.written out.old) (O.written out.new) (line_of value.now) }
-    ensures memory { IsErrOf result WriteRefusal.Memory → O.written out.new ≡ O.written out.old }
+/// The answer after the end.
+fn answer_to(end: Ended) -> Advance
+    ensures { result ≡ answer_of end }
 {
-    let line = line(alloc, value)?;
-    out.write_all(&line)
+    match end {
+        Ended::Stop(stop) => Advance::Stop(stop),
+        Ended::Write => Advance::Write,
+        Ended::Memory => Advance::Memory,
+    }
 }
 
-/// A string in UTF-8, and a newline.
-fn line(alloc: Global, value: &Str) -> Result<Vec<u8>, AllocError>
-    ensures { IfOk result (λ bytes. bytes.items ≡ line_of value.now) }
+/// Takes a step of a frame, by what it carries out.
+fn step(alloc: Global, state: &mut State, frame: Frame) -> Result<Next, AllocError>
+    ensures { IfOk result (λ next. FrameSteps frame state.old next state.new) }
 {
-    let mut bytes = value.to_utf8(alloc)?;
-    bytes.push(b'\n')?;
-    Ok(bytes)
+    match rules_of(&frame.activity) {
+        Rules::Statements => sr_stmt::step(alloc, state, frame),
+        Rules::Expressions => sr_expr::step(alloc, state, frame),
+        Rules::BuiltIns => sr_call::step(alloc, state, frame),
+    }
+}
+
+/// The rules by which an activity goes on.
+fn rules_of(activity: &Activity) -> Rules
+    ensures { result ≡ machine.rules_of activity.now }
+{
+    match activity {
+        Activity::Tree(_, tree) => {
+            if is_statement(&tree.get().node) {
+                Rules::Statements
+            } else {
+                Rules::Expressions
+            }
+        }
+        Activity::Script(_, _) => Rules::Statements,
+        Activity::BuiltIn(_) => Rules::BuiltIns,
+    }
+}
+
+/// Whether a tree is a statement.
+fn is_statement(node: &Node) -> bool
+    ensures { result ≡ language.is_statement (out-Node node.now) }
+{
+    match node {
+        Node::Expression(_)
+        | Node::Var(_)
+        | Node::Block(_)
+        | Node::Empty
+        | Node::If(_, _, _)
+        | Node::Do(_, _)
+        | Node::While(_, _)
+        | Node::For(_, _, _, _) => true,
+        _ => false,
+    }
+}
+
+/// A line, written and printed in the realm; the frame on top is given an empty end.
+fn print_line<O: Sink>(
+    alloc: Global,
+    state: &mut State,
+    text: Str,
+    out: &mut O,
+) -> Result<(), WriteRefusal>
+    ensures ok { OnOk result ((state.new ≡ printed text state.old) × Appends (O.written out.old) (O.written out.new) (line_of text)) }
+    ensures failed { IsErrOf result WriteRefusal.Failed → AppendsPart (O.written out.old) (O.written out.new) (line_of text) × Rose (O.faults out.old) (O.faults out.new) }
+    ensures memory { IsErrOf result WriteRefusal.Memory → O.written out.new ≡ O.written out.old }
+    ensures faults { O.faults out.old ≤ O.faults out.new }
+{
+    let line = line_bytes(alloc, &text)?;
+    state.add_line(text)?;
+    out.write_all(&line)?;
+    state.put_answer(Answer::Done(Completion::Normal(None)));
+    Ok(())
+}
+
+/// What is written for a line: the string in UTF-8, and a newline.
+fn line_bytes(alloc: Global, text: &Str) -> Result<Vec<u8>, AllocError>
+    ensures { IfOk result (λ line. line.items ≡ line_of text.now) }
+{
+    let mut line = text.to_utf8(alloc)?;
+    line.push(0x0A)?;
+    Ok(line)
 }

@@ -1,28 +1,53 @@
-use Rattle.std.proofs.Common.{refl, arith}
-use Rattle.sr_command.proofs.Printing.{printed_more, printed_all, printed_part, printed_start}
+use Rattle.std.proofs.Common.{refl, ap, [], arith}
+use Rattle.sr_machine.specs.Running.{Running}
+use Rattle.sr_command.proofs.Running.{start_under, goes_under, falls_under}
+use Rattle.sr_command.proofs.RunEnds.{starved, broken, done, stopped_by}
 use Rattle.sr_command.proofs.run.run_to_end.Goals as goal
+
+pub steps-init : goal.steps-init
+steps-init g c = record {
+  open_run = rw c.requires.1 refl;
+  so_far = λ text x is. start_under c.args.bound c.args.name.now text x _ _ is;
+  faults = omega arith;
+  err_written = refl;
+  err_faults = refl;
+}
 
 pub steps-preserved : goal.steps-preserved
 steps-preserved g c =
     let so = c.steps.invariant in
-    let step = c.in-Going.ensures.going refl in
     record {
-      open_run = step.still_open;
-      so_far = printed_more _ _ _ _ _ _ so.so_far step.printed;
+      open_run = c.in-Going.ensures.on refl;
+      so_far = λ text x is. goes_under _ _ text x _ _ _ (so.so_far text x is) _ _ (c.in-Going.ensures.going refl _);
       faults = omega (arith, so.faults, c.in-Going.ensures.faults);
+      err_written = so.err_written;
+      err_faults = so.err_faults;
     }
 
-pub returns-in-Done-clause-comes : goal.returns-in-Done-clause-comes
-returns-in-Done-clause-comes g c =
-    let step = c.in-Done.ensures.done refl in
-    printed_all _ _ _ _ (printed_more _ _ _ _ _ _ c.steps.invariant.so_far step.printed) (c.in-Done.ensures.none_left refl)
+pub steps-smaller : goal.steps-smaller
+steps-smaller g c = falls_under _ _ [] c.requires.0 _ _ _ (c.steps.invariant.so_far [] c.requires.0 c.requires.1) _ _ (c.in-Going.ensures.going refl _)
 
-pub returns-in-Write-clause-comes : goal.returns-in-Write-clause-comes
-returns-in-Write-clause-comes g c =
+pub returns-in-Done-clause-reaches : goal.returns-in-Done-clause-reaches
+returns-in-Done-clause-reaches g c =
     let so = c.steps.invariant in
-    printed_part _ _ _ _ _ so.so_far (c.in-Write.ensures.write refl so.open_run).part
+    let end = c.in-Done.ensures.done refl in
+    λ text x is.
+    done _ _ text x _ _ _ (so.so_far text x is) c.end_of_run.result _ (g.E.Sink.written c.args.err.now) _ _ end.0 (c.in-Done.ensures.done_unwritten refl) (ap (λ (r : Running). let h = r.held in h.answer) end.1)
+    (rw so.err_written at (c.end_of_run.ensures.comes (g.O.Sink.written c.advance.new.out)))
 
-pub returns-in-Memory-clause-comes : goal.returns-in-Memory-clause-comes
-returns-in-Memory-clause-comes g c =
+pub returns-in-Stop-clause-reaches : goal.returns-in-Stop-clause-reaches
+returns-in-Stop-clause-reaches g c =
     let so = c.steps.invariant in
-    printed_start _ _ _ _ _ so.so_far (c.in-Memory.ensures.memory refl so.open_run).nothing
+    λ text x is.
+    stopped_by _ _ text x _ _ _ (so.so_far text x is) c.end_by_stop.result _ (g.E.Sink.written c.args.err.now) _ (let r : Running = c.advance.new.self in r.held) c.in-Stop.stop (c.in-Stop.ensures.stop so.open_run c.in-Stop.stop refl _) (c.in-Stop.ensures.stop_unwritten c.in-Stop.stop refl)
+    (rw so.err_written at (c.end_by_stop.ensures.comes (g.O.Sink.written c.advance.new.out)))
+
+pub returns-in-Write-clause-reaches : goal.returns-in-Write-clause-reaches
+returns-in-Write-clause-reaches g c =
+    let so = c.steps.invariant in
+    λ text x is. rw so.err_written (broken _ _ text x _ _ _ (so.so_far text x is) _ (c.in-Write.ensures.write refl so.open_run _) (g.E.Sink.written c.args.err.now))
+
+pub returns-in-Memory-clause-reaches : goal.returns-in-Memory-clause-reaches
+returns-in-Memory-clause-reaches g c =
+    let so = c.steps.invariant in
+    λ text x is. rw so.err_written (starved _ _ text x _ _ _ (so.so_far text x is) _ (c.in-Memory.ensures.memory refl) (g.E.Sink.written c.args.err.now))
