@@ -1,0 +1,1 @@
+var a = 5, b; a += 2; a -= 1; a *= 3; a %= 10; b = a <<= 2; b |= 1; b ^= 3; a **= 2; print(a, b); b &&= "t"; var c; c ??= "n"; c ||= 1; print(b, c, a >>>= 1, a)

@@ -1,0 +1,1 @@
+true || 1; false && 1; null ?? 2

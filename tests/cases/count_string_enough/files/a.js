@@ -1,0 +1,1 @@
+var s = "aaaaaaaaaaaaaaaa"; s = s + s; s = s + s; s = s + s; s = s + s;

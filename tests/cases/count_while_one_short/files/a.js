@@ -1,0 +1,1 @@
+var i = 0; while (i < 2) i++;

@@ -1,0 +1,1 @@
+var x = "ab"; for (var i = 0; i < 23; i++) x = x + x;

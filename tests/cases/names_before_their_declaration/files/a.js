@@ -1,0 +1,1 @@
+print(x, typeof x); x = 1; { var x; } print(x); var x; print(x)

@@ -1,0 +1,1 @@
+print(print(), print(1, "two", null, undefined, true, NaN))

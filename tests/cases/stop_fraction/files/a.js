@@ -1,0 +1,1 @@
+var a = 1; print(a); a /= 2; print(a);

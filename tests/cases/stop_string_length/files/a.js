@@ -1,0 +1,1 @@
+var x = "ab"; for (var i = 0; i < 24; i++) x = x + x;

@@ -1,0 +1,1 @@
+undefined = 1
