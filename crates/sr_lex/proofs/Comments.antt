@@ -6,7 +6,8 @@ use Rattle.std.proofs.lemmas.List.{length-drop}
 use Rattle.std.proofs.Math.ListN.{drop_of_length-le}
 use Rattle.sr_lex.specs.Units.{is_line_end}
 use Rattle.sr_lex.specs.Tokens.{Stands, LineEnds, IsFirst}
-use Rattle.sr_lex.specs.Scan.{begins_with, line_len, block_from}
+use Rattle.sr_lex.specs.Units.{begins_with}
+use Rattle.sr_lex.specs.Scan.{line_len, block_from}
 use Rattle.sr_lex.specs.declared.gaps.Blank.{Blank}
 use Rattle.sr_lex.proofs.Truth.{or_assoc, or_nothing, and_true, and_in, same_number, is_same, both_ways}
 use Rattle.sr_lex.proofs.Places.{get_front, get_past, drop_next, first_here, first_later, later}

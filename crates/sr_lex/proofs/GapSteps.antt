@@ -4,7 +4,8 @@ use Rattle.std.specs.Prelude.{◌==◌, ◌&&◌, None}
 use Rattle.std.proofs.lemmas.List.{drop-drop}
 use Rattle.sr_lex.specs.Units.{is_line_end}
 use Rattle.sr_lex.specs.Closed.{NoClose}
-use Rattle.sr_lex.specs.Scan.{nothing, join, piece, gap, block_from, begins_with}
+use Rattle.sr_lex.specs.Units.{begins_with}
+use Rattle.sr_lex.specs.Scan.{nothing, join, piece, gap, block_from}
 use Rattle.sr_lex.specs.declared.gaps.Blank.{Blank}
 use Rattle.sr_lex.proofs.Truth.{or_nothing, or_assoc, nonzero}
 

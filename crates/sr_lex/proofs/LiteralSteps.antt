@@ -1,7 +1,8 @@
--- One character of a string literal.
-use Rattle.std.proofs.Common.{◌≡◌, ℕ, suc, ◌+◌, true, false, List, [], ◌++◌, drop, refl, sym, ap, ◌∙◌, arith, append_assoc}
+-- One character of a string literal or a template piece.
+use Rattle.std.proofs.Common.{◌≡◌, ℕ, zero, suc, ◌+◌, ◌≢◌, List, [], ◌++◌, drop, refl, sym, ap, ◌∙◌, arith, append_assoc}
 use Rattle.std.specs.Prelude.{Option, Some, None, option_map, IfSome}
-use Rattle.sr_lex.specs.Scan.{begins_with, character, Literal, before, literal, meant_units}
+use Rattle.sr_lex.proofs.Truth.{nonzero}
+use Rattle.sr_lex.specs.Scan.{closing_len, character, Literal, before, literal, meant_units}
 use Rattle.sr_lex.specs.declared.characters.Character.{Character}
 
 -- the units of a literal after so many, and its value after this one
@@ -22,20 +23,27 @@ pub value_none : (o : Option Literal) (vs : List ℕ) → option_map (λ l. l.va
 value_none None vs h = tt
 value_none (Some l) vs h = cc
 
-pub closes : (m quote : ℕ) (us : List ℕ) → begins_with quote us ≡ true → literal (suc m) quote us ≡ Some (record { units = 1; value = [] })
-closes m quote us h = rw h refl
+pub closes : (m n quote : ℕ) (us : List ℕ) → closing_len quote us ≡ suc n → literal (suc m) quote us ≡ Some (record { units = suc n; value = [] })
+closes m n quote us h = rw (h, nonzero n) refl
 
-pub goes : (m quote : ℕ) (us : List ℕ) (c : Character) → begins_with quote us ≡ false → character us ≡ Some c
+pub goes : (m quote : ℕ) (us : List ℕ) (c : Character) → closing_len quote us ≡ 0 → character quote us ≡ Some c
     → literal (suc m) quote us ≡ option_map (before c) (literal m quote (drop c.units us))
 goes m quote us c h e = rw (h, e) refl
 
-pub ends : (m quote : ℕ) (us : List ℕ) → begins_with quote us ≡ false → character us ≡ None → literal (suc m) quote us ≡ None
+pub ends : (m quote : ℕ) (us : List ℕ) → closing_len quote us ≡ 0 → character quote us ≡ None → literal (suc m) quote us ≡ None
 ends m quote us h e = rw (h, e) refl
 
-pub literal_closes : (k m quote : ℕ) (us : List ℕ) → k ≡ suc m → begins_with quote us ≡ true → literal k quote us ≡ Some (record { units = 1; value = [] })
-literal_closes k m quote us e h = ap (λ (i : ℕ). literal i quote us) e ∙ closes m quote us h
+some : (n : ℕ) → n ≢ 0 → (k : ℕ) × (n ≡ suc k)
+some zero h = absurd (h refl)
+some (suc n) h = (n, refl)
 
-pub literal_ends : (k m quote : ℕ) (us : List ℕ) → k ≡ suc m → begins_with quote us ≡ false → character us ≡ None → literal k quote us ≡ None
+pub literal_closes : (k m quote : ℕ) (us : List ℕ) → k ≡ suc m → closing_len quote us ≢ 0
+    → literal k quote us ≡ Some (record { units = closing_len quote us; value = [] })
+literal_closes k m quote us e h =
+    let n = some (closing_len quote us) h in
+    ap (λ (i : ℕ). literal i quote us) e ∙ closes m n.0 quote us n.1 ∙ ap (λ (i : ℕ). Some (record { units = i; value = [] })) (sym n.1)
+
+pub literal_ends : (k m quote : ℕ) (us : List ℕ) → k ≡ suc m → closing_len quote us ≡ 0 → character quote us ≡ None → literal k quote us ≡ None
 literal_ends k m quote us e h n = ap (λ (i : ℕ). literal i quote us) e ∙ ends m quote us h n
 
 len_before : (at : ℕ) (c : Character) (o : Option Literal) → len_from at (option_map (before c) o) ≡ len_from (at + c.units) o
@@ -46,12 +54,12 @@ value_before : (vs : List ℕ) (c : Character) (o : Option Literal) → value_fr
 value_before vs c None = refl
 value_before vs c (Some l) = ap Some (sym (append_assoc vs (meant_units c.meaning) l.value))
 
-pub len_goes : (k m quote at : ℕ) (us : List ℕ) (c : Character) → k ≡ suc m → begins_with quote us ≡ false → character us ≡ Some c
+pub len_goes : (k m quote at : ℕ) (us : List ℕ) (c : Character) → k ≡ suc m → closing_len quote us ≡ 0 → character quote us ≡ Some c
     → len_from at (literal k quote us) ≡ len_from (at + c.units) (literal m quote (drop c.units us))
 len_goes k m quote at us c e h n =
     ap (λ (i : ℕ). len_from at (literal i quote us)) e ∙ ap (len_from at) (goes m quote us c h n) ∙ len_before at c (literal m quote (drop c.units us))
 
-pub value_goes : (k m quote : ℕ) (vs us : List ℕ) (c : Character) → k ≡ suc m → begins_with quote us ≡ false → character us ≡ Some c
+pub value_goes : (k m quote : ℕ) (vs us : List ℕ) (c : Character) → k ≡ suc m → closing_len quote us ≡ 0 → character quote us ≡ Some c
     → value_from vs (literal k quote us) ≡ value_from (vs ++ meant_units c.meaning) (literal m quote (drop c.units us))
 value_goes k m quote vs us c e h n =
     ap (λ (i : ℕ). value_from vs (literal i quote us)) e ∙ ap (value_from vs) (goes m quote us c h n) ∙ value_before vs c (literal m quote (drop c.units us))

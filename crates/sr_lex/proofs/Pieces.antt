@@ -5,7 +5,8 @@ use Rattle.std.specs.List.{list_any}
 use Rattle.std.proofs.lemmas.List.{drop-drop}
 use Rattle.sr_lex.specs.Units.{is_line_end, is_white_space}
 use Rattle.sr_lex.specs.Tokens.{Stands, LineEnds, IsFirst, Comment, single_line, multi_line, hashbang, Gap, white_space, line_end, comment}
-use Rattle.sr_lex.specs.Scan.{begins_with, nothing, line_len, line_comment, block_from, slash_comment, piece}
+use Rattle.sr_lex.specs.Units.{begins_with}
+use Rattle.sr_lex.specs.Scan.{nothing, line_len, line_comment, block_from, slash_comment, piece}
 use Rattle.sr_lex.specs.declared.gaps.Blank.{Blank}
 use Rattle.sr_lex.proofs.Truth.{or_true, and_true, same_number, both_ways}
 use Rattle.sr_lex.proofs.Places.{get_front, range_is, two_units, one_first}

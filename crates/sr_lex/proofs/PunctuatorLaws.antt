@@ -6,6 +6,7 @@ use Rattle.std.specs.Str.{bytes_eq}
 use Rattle.std.proofs.lemmas.Slice.Eq.{bytes_eq-Decides}
 use Rattle.sr_lex.specs.Units.{is_digit, begins_with_digit, is_name_start, is_white_space, is_line_end}
 use Rattle.sr_lex.specs.Strings.{is_quote}
+use Rattle.sr_lex.specs.Templates.{backquote}
 use Rattle.sr_lex.specs.Tokens.{punctuators, is_one_of, is_punctuator}
 use Rattle.sr_lex.specs.Scan.{is_single, takes_equals, is_doubled, is_doubled_before_equals, is_four, is_three, is_two, is_one, first_len, punctuator_len}
 use Rattle.sr_lex.proofs.Truth.{or_true, and_true, is_same, or_left, or_right, and_in, not_true}
@@ -248,18 +249,18 @@ punctuator_most (a ∷ b ∷ c ∷ d ∷ e ∷ us) (suc (suc (suc (suc (suc n)))
 
 begins_apart : List ℕ → Bool
 begins_apart [] = false
-begins_apart (u ∷ us) = not (is_name_start u || is_quote u || is_digit u)
+begins_apart (u ∷ us) = not (is_name_start u || is_quote u || is_digit u || u == backquote)
 
 all_apart : list_any (λ p. not (begins_apart p)) punctuators ≡ false
 unfolding begins_apart is_name_start is_quote is_digit
 all_apart = refl
 
--- no name, no string literal and no number begins so
-pub punctuator_apart : (u : ℕ) (us after : List ℕ) → is_punctuator (u ∷ us) after ≡ true → (is_name_start u || is_quote u || is_digit u) ≡ false
+-- no name, no string literal, no number and no template begins so
+pub punctuator_apart : (u : ℕ) (us after : List ℕ) → is_punctuator (u ∷ us) after ≡ true → (is_name_start u || is_quote u || is_digit u || u == backquote) ≡ false
 unfolding is_punctuator begins_apart
 punctuator_apart u us after h =
     let p = and_true (is_one_of (u ∷ us) punctuators) (not (is_one_of (u ∷ us) (codes "." ∷ codes "?." ∷ []) && begins_with_digit after)) h in
-    not_true (is_name_start u || is_quote u || is_digit u) (in_list begins_apart (u ∷ us) punctuators all_apart p.0)
+    not_true (is_name_start u || is_quote u || is_digit u || u == backquote) (in_list begins_apart (u ∷ us) punctuators all_apart p.0)
 
 pub no_punctuator : (after : List ℕ) → is_punctuator [] after ≡ false
 unfolding is_punctuator

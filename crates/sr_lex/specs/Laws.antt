@@ -2,6 +2,7 @@
 use Rattle.std.specs.Prelude.{◌≡◌, ℕ, ℤ, Option, List, ◌⊎◌}
 use Rattle.sr_lex.specs.Strings.{StringLiteral}
 use Rattle.sr_lex.specs.Numbers.{NumberLiteral}
+use Rattle.sr_lex.specs.Templates.{TemplatePiece}
 use Rattle.sr_lex.specs.Tokens.{Tokens, FailsAt}
 use Rattle.sr_lex.specs.declared.token.Token.{Token}
 
@@ -28,3 +29,7 @@ OneValue = (us v w : List ℕ) → StringLiteral us v → StringLiteral us w →
 -- and so has a number literal
 abbrev pub OneNumber : Type 0
 OneNumber = (us : List ℕ) (v w : Option ℤ) → NumberLiteral us v → NumberLiteral us w → v ≡ w
+
+-- and a template piece
+abbrev pub OnePieceValue : Type 0
+OnePieceValue = (us v w : List ℕ) → TemplatePiece us v → TemplatePiece us w → v ≡ w

@@ -1,6 +1,8 @@
 pub mod Units
 pub mod Strings
 pub mod Numbers
+pub mod Templates
+pub mod Brackets
 pub mod Tokens
 pub mod Laws
 pub mod Answers

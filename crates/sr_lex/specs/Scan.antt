@@ -5,23 +5,22 @@ use Rattle.std.specs.Option.{option_map_or}
 use Rattle.std.specs.List.{list_any}
 use Rattle.std.specs.Char.{digit_value}
 use Rattle.std.specs.Char.Escape.{encode_utf16}
-use Rattle.sr_lex.specs.Units.{line_feed, carriage_return, is_line_end, is_white_space, is_digit, is_name_start, is_name_part, begins_with_digit}
+use Rattle.sr_lex.specs.Units.{line_feed, carriage_return, is_line_end, is_white_space, is_digit, is_name_start, is_name_part, begins_with_digit, begins_with}
 use Rattle.sr_num.specs.StringToNumber.{base_of_letter}
 use Rattle.sr_lex.specs.Strings.{backslash, is_quote, single_escape, is_hex_digit, begins_with_line_feed}
 use Rattle.sr_lex.specs.Numbers.{digit_zero, separator, may_end}
+use Rattle.sr_lex.specs.Templates.{backquote, dollar_sign, left_brace, right_brace}
+use Rattle.sr_lex.specs.Brackets.{in_substitution, brackets_after}
 use Rattle.sr_lex.specs.declared.token.Token.{Token}
 use Rattle.sr_lex.specs.declared.token.TokenKind.{TokenKind}
-use Rattle.sr_lex.specs.declared.token.TokenKind.TheVariants.{Name, Number, Text, Punctuator}
+use Rattle.sr_lex.specs.declared.token.TokenKind.TheVariants.{Name, Number, Text, Template, Punctuator}
+use Rattle.sr_lex.specs.declared.brackets.Bracket.{Bracket}
 use Rattle.sr_lex.specs.declared.gaps.Blank.{Blank}
 use Rattle.sr_lex.specs.declared.characters.HexRun.{HexRun}
 use Rattle.sr_lex.specs.declared.characters.Character.{Character}
 use Rattle.sr_lex.specs.declared.characters.Meaning.{Meaning}
 use Rattle.sr_lex.specs.declared.characters.Meaning.TheVariants.{Nothing, CodeUnit, CodePoint}
 use Rattle.sr_lex.specs.declared.rows.Row.{Row}
-
-abbrev pub begins_with : ℕ → List ℕ → Bool
-begins_with c [] = false
-begins_with c (u ∷ us) = u == c
 
 -- ---- gaps
 
@@ -68,7 +67,7 @@ gap (suc m) first us =
     let b = piece first us in
     if b.units == 0 then nothing else join b (gap m false (drop b.units us))
 
--- ---- string literals
+-- ---- string literals and template pieces
 
 -- after n hexadecimal digits of this value, those at the front; a value above 10FFFF shows as 110000
 abbrev pub hex_from : ℕ → ℕ → List ℕ → HexRun
@@ -122,12 +121,25 @@ unfoldable pub escape : List ℕ → Option Character
 escape [] = None
 escape (u ∷ us) = option_map_or (λ v. Some (character_of 2 (CodeUnit v))) (single_escape u) (other_escape (u ∷ us))
 
--- the character at the front, which is no closing quote
-unfoldable pub character : List ℕ → Option Character
-character [] = None
-character (u ∷ us) =
+-- a unit of a template that begins no escape; CR and CR LF stand for LF
+abbrev pub template_unit : ℕ → List ℕ → Character
+template_unit u us =
+    if u == carriage_return then character_of (if begins_with_line_feed us then 2 else 1) (CodeUnit line_feed)
+    else character_of 1 (CodeUnit u)
+
+-- the character at the front between these quotes, which closes nothing
+unfoldable pub character : ℕ → List ℕ → Option Character
+character quote [] = None
+character quote (u ∷ us) =
     if u == backslash then escape us
-    else (if u == line_feed || u == carriage_return then None else Some (character_of 1 (CodeUnit u)))
+    else (if quote == backquote then Some (template_unit u us)
+    else (if u == line_feed || u == carriage_return then None else Some (character_of 1 (CodeUnit u))))
+
+-- how many units close a literal between these quotes at the front: the quote, and `${` in a template; 0 where nothing does
+unfoldable pub closing_len : ℕ → List ℕ → ℕ
+closing_len quote us =
+    if begins_with quote us then 1
+    else (if quote == backquote && (begins_with dollar_sign us && begins_with left_brace (drop 1 us)) then 2 else 0)
 
 -- the units that a character stands for
 abbrev pub meant_units : Meaning → List ℕ
@@ -143,12 +155,14 @@ pub record Literal : Type 0 where
 abbrev pub before : Character → Literal → Literal
 before c l = record { units = c.units + l.units; value = meant_units c.meaning ++ l.value }
 
--- the literal whose opening quote stands before these units, in at most so many turns
+-- the literal whose opening quote stands before these units, in at most so many turns; a template piece is one between
+-- backquotes, whatever stands before
 abbrev pub literal : ℕ → ℕ → List ℕ → Option Literal
 literal zero quote us = None
 literal (suc m) quote us =
-    if begins_with quote us then Some (record { units = 1; value = [] })
-    else option_and_then (λ c. option_map (before c) (literal m quote (drop c.units us))) (character us)
+    let closing = closing_len quote us in
+    if closing == 0 then option_and_then (λ c. option_map (before c) (literal m quote (drop c.units us))) (character quote us)
+    else Some (record { units = closing; value = [] })
 
 -- how many units it has, without the opening quote
 abbrev pub literal_units : ℕ → List ℕ → Option ℕ
@@ -246,14 +260,19 @@ number_row us =
     let n = name_len us in
     if is_safe_value (number_value (take n us)) && may_end (take n us) (drop n us) then Some (row_of Number n) else None
 
--- the token at the front
-unfoldable pub row : List ℕ → Option Row
-row [] = None
-row (u ∷ us) =
+-- whether a template piece begins with the unit; the flag says that the innermost open bracket is a `${`
+unfoldable pub begins_piece : Bool → ℕ → Bool
+begins_piece inside u = u == backquote || (inside && u == right_brace)
+
+-- the token at the front, with that flag
+unfoldable pub row : Bool → List ℕ → Option Row
+row inside [] = None
+row inside (u ∷ us) =
     if is_name_start u then Some (row_of Name (name_len us + 1))
     else (if is_quote u then option_map (λ len. row_of Text (len + 1)) (literal_units u us)
     else (if is_digit u then number_row (u ∷ us)
-    else (let n = punctuator_len (u ∷ us) in if n == 0 then None else Some (row_of Punctuator n))))
+    else (if begins_piece inside u then option_map (λ len. row_of Template (len + 1)) (literal_units backquote us)
+    else (let n = punctuator_len (u ∷ us) in if n == 0 then None else Some (row_of Punctuator n)))))
 
 -- ---- texts
 
@@ -264,12 +283,14 @@ abbrev pub with_front : Token → Result (List Token) ℕ → Result (List Token
 with_front t (Ok ts) = Ok (t ∷ ts)
 with_front t (Err p) = Err p
 
--- the tokens of a text whose units from a place on are these, or the place of its failure, in at most so many turns
-abbrev pub lexed : ℕ → ℕ → List ℕ → Result (List Token) ℕ
-lexed zero at us = Ok []
-lexed (suc m) at us =
+-- the tokens of a text whose units from a place on are these, where these brackets are open, or the place of its failure, in at
+-- most so many turns
+abbrev pub lexed : ℕ → ℕ → List Bracket → List ℕ → Result (List Token) ℕ
+lexed zero at brackets us = Ok []
+lexed (suc m) at brackets us =
     let g = gap (length us) (at == 0) us in
     let from = at + g.units in
     let rest = drop g.units us in
     if length rest == 0 then Ok []
-    else option_map_or (λ r. with_front (token_of r from g.line) (lexed m (from + r.units) (drop r.units rest))) (row rest) (Err from)
+    else option_map_or (λ r. with_front (token_of r from g.line) (lexed m (from + r.units) (brackets_after brackets r.kind (take r.units rest)) (drop r.units rest)))
+    (row (in_substitution brackets) rest) (Err from)

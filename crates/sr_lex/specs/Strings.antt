@@ -38,39 +38,39 @@ abbrev pub begins_with_line_feed : List ℕ → Bool
 begins_with_line_feed [] = false
 begins_with_line_feed (u ∷ us) = u == line_feed
 
--- The units that follow the opening quote of a literal, to the closing one, and what they stand for. Each constructor is
--- a character of the literal at the front: the character's units, and its value.
+-- An escape, what it stands for, and the units that follow it (ECMA-262 12.9.4 EscapeSequence and LineContinuation, 12.9.6
+-- TemplateEscapeSequence).
+pub data Escape : List ℕ → List ℕ → List ℕ → Type 0 where
+  single : {u v : ℕ} {after : List ℕ} → single_escape u ≡ Some v → Escape (backslash ∷ u ∷ []) (v ∷ []) after
+  -- `\0`, where no digit follows
+  null : {after : List ℕ} → begins_with_digit after ≡ false → Escape (backslash ∷ 0x30 ∷ []) (0 ∷ []) after
+  -- `\xHH`
+  hex : {a b : ℕ} {after : List ℕ}
+      → IsTrue (list_all is_hex_digit (a ∷ b ∷ []))
+      → Escape (backslash ∷ 0x78 ∷ a ∷ b ∷ []) (hex_value (a ∷ b ∷ []) ∷ []) after
+  -- `\uHHHH`
+  unicode : {a b c d : ℕ} {after : List ℕ}
+      → IsTrue (list_all is_hex_digit (a ∷ b ∷ c ∷ d ∷ []))
+      → Escape (backslash ∷ 0x75 ∷ a ∷ b ∷ c ∷ d ∷ []) (hex_value (a ∷ b ∷ c ∷ d ∷ []) ∷ []) after
+  -- `\u{H..}`, which stands for the code point's units (11.1.1 UTF16EncodeCodePoint)
+  code_point : {after : List ℕ} (ds : List ℕ)
+      → 0 < length ds → IsTrue (list_all is_hex_digit ds) → hex_value ds ≤ 0x10FFFF
+      → Escape (backslash ∷ 0x75 ∷ 0x7B ∷ ds ++ 0x7D ∷ []) (encode_utf16 (hex_value ds)) after
+  -- a line continuation: a backslash and a line terminator sequence, which is LF, CR not before LF, U+2028, U+2029 or CR LF
+  line_continuation : {u : ℕ} {after : List ℕ}
+      → IsTrue (is_line_end u) → (u ≡ carriage_return → begins_with_line_feed after ≡ false)
+      → Escape (backslash ∷ u ∷ []) [] after
+  crlf_continuation : {after : List ℕ} → Escape (backslash ∷ carriage_return ∷ line_feed ∷ []) [] after
+  -- a backslash before any other unit
+  itself : {u : ℕ} {after : List ℕ} → IsTrue (is_self_escape u) → Escape (backslash ∷ u ∷ []) (u ∷ []) after
+
+-- The units that follow the opening quote of a literal, to the closing one, and what they stand for.
 pub data StringRest : ℕ → List ℕ → List ℕ → Type 0 where
   closing_quote : {quote : ℕ} → StringRest quote (quote ∷ []) []
   plain : {quote u : ℕ} {us vs : List ℕ}
       → IsTrue (is_plain quote u) → StringRest quote us vs → StringRest quote (u ∷ us) (u ∷ vs)
-  single : {quote u v : ℕ} {us vs : List ℕ}
-      → single_escape u ≡ Some v → StringRest quote us vs → StringRest quote (backslash ∷ u ∷ us) (v ∷ vs)
-  -- `\0`, where no digit follows
-  null : {quote : ℕ} {us vs : List ℕ}
-      → begins_with_digit us ≡ false → StringRest quote us vs
-      → StringRest quote (backslash ∷ 0x30 ∷ us) (0 ∷ vs)
-  -- `\xHH`
-  hex : {quote a b : ℕ} {us vs : List ℕ}
-      → IsTrue (list_all is_hex_digit (a ∷ b ∷ [])) → StringRest quote us vs
-      → StringRest quote (backslash ∷ 0x78 ∷ a ∷ b ∷ us) (hex_value (a ∷ b ∷ []) ∷ vs)
-  -- `\uHHHH`
-  unicode : {quote a b c d : ℕ} {us vs : List ℕ}
-      → IsTrue (list_all is_hex_digit (a ∷ b ∷ c ∷ d ∷ [])) → StringRest quote us vs
-      → StringRest quote (backslash ∷ 0x75 ∷ a ∷ b ∷ c ∷ d ∷ us) (hex_value (a ∷ b ∷ c ∷ d ∷ []) ∷ vs)
-  -- `\u{H..}`, which stands for the code point's units (11.1.1 UTF16EncodeCodePoint)
-  code_point : {quote : ℕ} {us vs : List ℕ} (ds : List ℕ)
-      → 0 < length ds → IsTrue (list_all is_hex_digit ds) → hex_value ds ≤ 0x10FFFF → StringRest quote us vs
-      → StringRest quote (backslash ∷ 0x75 ∷ 0x7B ∷ ds ++ 0x7D ∷ us) (encode_utf16 (hex_value ds) ++ vs)
-  -- a line continuation: a backslash and a line terminator sequence, which is LF, CR not before LF, U+2028, U+2029 or CR LF
-  line_continuation : {quote u : ℕ} {us vs : List ℕ}
-      → IsTrue (is_line_end u) → (u ≡ carriage_return → begins_with_line_feed us ≡ false)
-      → StringRest quote us vs → StringRest quote (backslash ∷ u ∷ us) vs
-  crlf_continuation : {quote : ℕ} {us vs : List ℕ}
-      → StringRest quote us vs → StringRest quote (backslash ∷ carriage_return ∷ line_feed ∷ us) vs
-  -- a backslash before any other unit
-  itself : {quote u : ℕ} {us vs : List ℕ}
-      → IsTrue (is_self_escape u) → StringRest quote us vs → StringRest quote (backslash ∷ u ∷ us) (u ∷ vs)
+  escaped : {quote : ℕ} {es us vs ws : List ℕ}
+      → Escape es ws us → StringRest quote us vs → StringRest quote (es ++ us) (ws ++ vs)
 
 -- A string literal and its string value.
 pub data StringLiteral : List ℕ → List ℕ → Type 0 where

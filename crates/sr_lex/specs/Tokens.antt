@@ -2,12 +2,15 @@
 use Rattle.std.specs.Prelude.{◌≡◌, ℕ, ◌+◌, ◌<◌, ◌≤◌, Bool, true, false, not, ◌||◌, ◌&&◌, List, [], ◌∷◌, length, take, drop, Some, IsTrue, MatchOption, ⊤, slice_get, slice_range, codes}
 use Rattle.std.specs.List.{list_all, list_any}
 use Rattle.std.specs.Str.{bytes_eq}
-use Rattle.sr_lex.specs.Units.{is_line_end, is_white_space, is_name_start, is_name_part, begins_with_digit}
+use Rattle.sr_lex.specs.Units.{is_line_end, is_white_space, is_name_start, is_name_part, begins_with_digit, begins_with}
 use Rattle.sr_lex.specs.Strings.{IsLiteral}
 use Rattle.sr_lex.specs.Numbers.{IsNumber, may_end}
+use Rattle.sr_lex.specs.Templates.{right_brace, IsPiece}
+use Rattle.sr_lex.specs.Brackets.{in_substitution, brackets_after}
 use Rattle.sr_lex.specs.declared.token.Token.{Token}
 use Rattle.sr_lex.specs.declared.token.TokenKind.{TokenKind}
-use Rattle.sr_lex.specs.declared.token.TokenKind.TheVariants.{Name, Number, Text, Punctuator}
+use Rattle.sr_lex.specs.declared.token.TokenKind.TheVariants.{Name, Number, Text, Template, Punctuator}
+use Rattle.sr_lex.specs.declared.brackets.Bracket.{Bracket}
 
 -- ---- comments and white space
 
@@ -74,21 +77,23 @@ is_one_of us texts = list_any (bytes_eq us) texts
 unfoldable pub is_punctuator : List ℕ → List ℕ → Bool
 is_punctuator us after = is_one_of us punctuators && not (is_one_of us (codes "." ∷ codes "?." ∷ []) && begins_with_digit after)
 
--- the units are a token of this kind, before these units
-abbrev pub IsRow : TokenKind → List ℕ → List ℕ → Type 0
-IsRow Name us after = IsTrue (is_name us)
-IsRow Number us after = IsNumber us × IsTrue (may_end us after)
-IsRow Text us after = IsLiteral us
-IsRow Punctuator us after = IsTrue (is_punctuator us after)
+-- Whether the units are a token of this kind, before these units. The flag says that the innermost open bracket is a `${`:
+-- there alone a piece begins with `}`, and no punctuator does.
+abbrev pub IsRow : Bool → TokenKind → List ℕ → List ℕ → Type 0
+IsRow inside Name us after = IsTrue (is_name us)
+IsRow inside Number us after = IsNumber us × IsTrue (may_end us after)
+IsRow inside Text us after = IsLiteral us
+IsRow inside Template us after = IsPiece us × IsTrue (inside || not (begins_with right_brace us))
+IsRow inside Punctuator us after = IsTrue (is_punctuator us after) × IsTrue (not (inside && begins_with right_brace us))
 
 -- the units from one place of the text to another are a token of this kind
-abbrev pub HasRow : List ℕ → TokenKind → ℕ → ℕ → Type 0
-HasRow text kind from to = (to ≤ length text) × IsRow kind (slice_range text from to) (drop to text)
+abbrev pub HasRow : Bool → List ℕ → TokenKind → ℕ → ℕ → Type 0
+HasRow inside text kind from to = (to ≤ length text) × IsRow inside kind (slice_range text from to) (drop to text)
 
 -- and no token that begins there is longer
-pub record IsLongest (text : List ℕ) (kind : TokenKind) (from to : ℕ) : Type 0 where
-  pub row : HasRow text kind from to
-  pub longest : (other : TokenKind) (end : ℕ) → HasRow text other from end → end ≤ to
+pub record IsLongest (inside : Bool) (text : List ℕ) (kind : TokenKind) (from to : ℕ) : Type 0 where
+  pub row : HasRow inside text kind from to
+  pub longest : (other : TokenKind) (end : ℕ) → HasRow inside text other from end → end ≤ to
 
 -- ---- tokens
 
@@ -96,40 +101,40 @@ pub record IsLongest (text : List ℕ) (kind : TokenKind) (from to : ℕ) : Type
 abbrev pub NoComment : List ℕ → ℕ → Type 0
 NoComment text at = (to : ℕ) → ¬ Comment text at to
 
--- From a place on, the text has these tokens: before each and after the last a gap, none begins where a comment begins,
--- and each is the longest.
-pub data Spans : List ℕ → ℕ → List Token → Type 0 where
-  last : {text : List ℕ} {at : ℕ} {line : Bool} → Gap text at (length text) line → Spans text at []
-  next : {text : List ℕ} {at : ℕ} {t : Token} {ts : List Token}
-      → Gap text at t.from t.line_before → NoComment text t.from → IsLongest text t.kind t.from t.to
-      → Spans text t.to ts → Spans text at (t ∷ ts)
-
--- the tokens of a text
-abbrev pub Tokens : List ℕ → List Token → Type 0
-Tokens text ts = Spans text 0 ts
-
--- From a place on, the text has tokens up to a place at which no gap goes on and no token begins.
-pub data Fails : List ℕ → ℕ → ℕ → Type 0 where
-  here : {text : List ℕ} {at place u : ℕ} {line : Bool}
-      → Gap text at place line → NoComment text place → slice_get text place ≡ Some u
-      → is_white_space u ≡ false → is_line_end u ≡ false
-      → ((kind : TokenKind) (to : ℕ) → ¬ HasRow text kind place to) → Fails text at place
-  later : {text : List ℕ} {at place : ℕ} {t : Token}
-      → Gap text at t.from t.line_before → NoComment text t.from → IsLongest text t.kind t.from t.to
-      → Fails text t.to place → Fails text at place
-
--- the first place of a text at which no token fits
-abbrev pub FailsAt : List ℕ → ℕ → Type 0
-FailsAt text place = Fails text 0 place
-
--- ---- one token
-
 -- the units of a token
 abbrev pub token_units : List ℕ → Token → List ℕ
 token_units text t = slice_range text t.from t.to
 
--- the token's units stand in the text and have a row of its kind
+-- From a place on, where these brackets are open, the text has these tokens: before each and after the last a gap, none begins
+-- where a comment begins, and each is the longest.
+pub data Spans : List ℕ → ℕ → List Bracket → List Token → Type 0 where
+  last : {text : List ℕ} {at : ℕ} {brackets : List Bracket} {line : Bool} → Gap text at (length text) line → Spans text at brackets []
+  next : {text : List ℕ} {at : ℕ} {brackets : List Bracket} {t : Token} {ts : List Token}
+      → Gap text at t.from t.line_before → NoComment text t.from → IsLongest (in_substitution brackets) text t.kind t.from t.to
+      → Spans text t.to (brackets_after brackets t.kind (token_units text t)) ts → Spans text at brackets (t ∷ ts)
+
+-- the tokens of a text
+abbrev pub Tokens : List ℕ → List Token → Type 0
+Tokens text ts = Spans text 0 [] ts
+
+-- From a place on, the text has tokens up to a place at which no gap goes on and no token begins.
+pub data Fails : List ℕ → ℕ → List Bracket → ℕ → Type 0 where
+  here : {text : List ℕ} {at place u : ℕ} {brackets : List Bracket} {line : Bool}
+      → Gap text at place line → NoComment text place → slice_get text place ≡ Some u
+      → is_white_space u ≡ false → is_line_end u ≡ false
+      → ((kind : TokenKind) (to : ℕ) → ¬ HasRow (in_substitution brackets) text kind place to) → Fails text at brackets place
+  later : {text : List ℕ} {at place : ℕ} {brackets : List Bracket} {t : Token}
+      → Gap text at t.from t.line_before → NoComment text t.from → IsLongest (in_substitution brackets) text t.kind t.from t.to
+      → Fails text t.to (brackets_after brackets t.kind (token_units text t)) place → Fails text at brackets place
+
+-- the first place of a text at which no token fits
+abbrev pub FailsAt : List ℕ → ℕ → Type 0
+FailsAt text place = Fails text 0 [] place
+
+-- ---- one token
+
+-- the token's units stand in the text and have a row of its kind, inside a substitution or outside
 pub record IsTokenOf (text : List ℕ) (t : Token) : Type 0 where
   pub nonempty : t.from < t.to
   pub in_text : t.to ≤ length text
-  pub row : IsRow t.kind (token_units text t) (drop t.to text)
+  pub row : (inside : Bool) × IsRow inside t.kind (token_units text t) (drop t.to text)

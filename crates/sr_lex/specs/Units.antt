@@ -36,3 +36,8 @@ is_name_part u = is_name_start u || is_digit u
 abbrev pub begins_with_digit : List ℕ → Bool
 begins_with_digit [] = false
 begins_with_digit (u ∷ us) = is_digit u
+
+-- and it is this one
+abbrev pub begins_with : ℕ → List ℕ → Bool
+begins_with c [] = false
+begins_with c (u ∷ us) = u == c

@@ -1,23 +1,23 @@
-ghost use Rattle.std.specs.Prelude.{◌≡◌, ◌≤◌, ◌<◌, ◌+◌, length, take, min, IfSome};
+ghost use Rattle.std.specs.Prelude.{◌≡◌, ◌≤◌, ◌<◌, ◌+◌, ◌&&◌, length, take, drop, min, IfSome};
 ghost use Rattle.sr_lex.specs.Scan as spec;
+ghost use Rattle.sr_lex.specs.Units.{begins_with};
+ghost use Rattle.sr_lex.specs.Templates.{dollar_sign, left_brace};
 ghost use Rattle.sr_lex.specs.Scan.{IsWithin};
 
 use crate::units::{
-    CARRIAGE_RETURN, LINE_FEED, begins_with, begins_with_digit, digit_value, is_digit,
-    is_hex_digit, is_line_end, single_escape,
+    BACKQUOTE, CARRIAGE_RETURN, LEFT_BRACE, LINE_FEED, RIGHT_BRACE, begins_with, begins_with_digit,
+    digit_value, is_digit, is_hex_digit, is_line_end, single_escape,
 };
 
 const DIGIT_ZERO: u16 = 0x30;
+
+const DOLLAR_SIGN: u16 = 0x24;
 
 const BACKSLASH: u16 = 0x5C;
 
 const LETTER_U: u16 = 0x75;
 
 const LETTER_X: u16 = 0x78;
-
-const LEFT_BRACE: u16 = 0x7B;
-
-const RIGHT_BRACE: u16 = 0x7D;
 
 const LAST_POINT: u32 = 0x10FFFF;
 
@@ -30,7 +30,7 @@ pub struct HexRun {
     pub value: u32,
 }
 
-/// What a character of a string literal stands for (ECMA-262 12.9.4.2).
+/// What a character of a string literal or a template piece stands for (ECMA-262 12.9.4.2, 12.9.6).
 #[derive(Clone, Copy)]
 pub enum Meaning {
     /// No units: a line continuation.
@@ -41,7 +41,7 @@ pub enum Meaning {
     CodePoint(u32),
 }
 
-/// A character of a string literal.
+/// A character of a string literal or a template piece.
 #[derive(Clone, Copy)]
 pub struct Character {
     /// How many units it has.
@@ -188,10 +188,22 @@ fn escape(units: &[u16]) -> Option<Character>
     }
 }
 
-/// The character at the front, which is no closing quote.
+/// A unit of a template that begins no escape, before these units; CR and CR LF stand for LF.
+fn template_unit(first: u16, rest: &[u16]) -> Character
+    ensures value { result ≡ spec.template_unit first rest.now }
+    ensures within { IsWithin (length rest.now + 1) result }
+{
+    if first == CARRIAGE_RETURN {
+        let units = if begins_with(LINE_FEED, rest) { 2 } else { 1 };
+        return character_of(units, Meaning::CodeUnit(LINE_FEED));
+    }
+    character_of(1, Meaning::CodeUnit(first))
+}
+
+/// The character at the front between these quotes, which closes nothing.
 #[tactic(auto, unfolding(crate::specs::Scan::character))]
-pub fn next_character(units: &[u16]) -> Option<Character>
-    ensures value { result ≡ spec.character units.now }
+pub fn next_character(quote: u16, units: &[u16]) -> Option<Character>
+    ensures value { result ≡ spec.character quote units.now }
     ensures within { IfSome result (λ c. IsWithin (length units.now) c) }
 {
     let [first, rest @ ..] = units else {
@@ -201,8 +213,36 @@ pub fn next_character(units: &[u16]) -> Option<Character>
     if first == BACKSLASH {
         return escape(rest);
     }
+    if quote == BACKQUOTE {
+        return Some(template_unit(first, rest));
+    }
     if first == LINE_FEED || first == CARRIAGE_RETURN {
         return None;
     }
     Some(character_of(1, Meaning::CodeUnit(first)))
+}
+
+/// Whether these units begin with `${`.
+fn begins_substitution(units: &[u16]) -> bool
+    ensures { result ≡ (begins_with dollar_sign units.now && begins_with left_brace (drop 1 units.now)) }
+{
+    match units {
+        [first, rest @ ..] => *first == DOLLAR_SIGN && begins_with(LEFT_BRACE, rest),
+        [] => false,
+    }
+}
+
+/// How many units close a literal between these quotes at the front, and 0 where nothing does.
+#[tactic(auto, unfolding(crate::specs::Scan::closing_len))]
+pub fn closing_len(quote: u16, units: &[u16]) -> usize
+    ensures value { result ≡ spec.closing_len quote units.now }
+    ensures within { result ≤ length units.now }
+{
+    if begins_with(quote, units) {
+        1
+    } else if quote == BACKQUOTE && begins_substitution(units) {
+        2
+    } else {
+        0
+    }
 }

@@ -1,4 +1,4 @@
-ghost use Rattle.sr_lex.specs.Laws.{OneReading, OneFailure, TokensOrFailure, EachTextIsRead, OneValue, OneNumber};
+ghost use Rattle.sr_lex.specs.Laws.{OneReading, OneFailure, TokensOrFailure, EachTextIsRead, OneValue, OneNumber, OnePieceValue};
 
 /// A text has the tokens of one list at most.
 pub fn one_reading()
@@ -28,4 +28,9 @@ pub fn one_value()
 /// A number literal has one value.
 pub fn one_number()
     ensures { OneNumber }
+{}
+
+/// A template piece has one value.
+pub fn one_piece_value()
+    ensures { OnePieceValue }
 {}

@@ -1,11 +1,13 @@
 //! Tokens of a text (ECMA-262 12).
 #![tactic(auto)]
 
-/// The characters of string literals.
+/// The brackets that are open between two tokens.
+mod brackets;
+/// The characters of string literals and template pieces.
 mod characters;
 /// White space, line ends and comments.
 mod gaps;
-/// String literals.
+/// String literals and template pieces.
 mod literals;
 /// The laws of the definitions.
 pub mod laws;
@@ -20,7 +22,7 @@ mod token;
 /// Code units by what tokens ask of them.
 mod units;
 
-pub use reading::{lex, number_value, string_value, token_text};
+pub use reading::{lex, number_value, string_value, template_value, token_text};
 pub use token::{LexRefusal, Token, TokenKind};
 
 #[cfg(test)]

@@ -3,11 +3,11 @@ ghost use Rattle.std.specs.Char.Escape.{encode_utf16};
 ghost use Rattle.sr_lex.specs.Scan as spec;
 ghost use Rattle.sr_lex.specs.Scan.{IsCapped};
 
-use crate::characters::{Meaning, next_character};
-use crate::units::begins_with;
+use crate::characters::{Meaning, closing_len, next_character};
 use std::alloc::{AllocError, Global};
 
-/// How many units a string literal has whose opening quote stands before these units, without that quote.
+/// How many units a string literal has whose opening quote stands before these units, without that quote; between backquotes,
+/// how many a template piece has without its first.
 pub fn literal_len(units: &[u16], quote: u16) -> Option<usize>
     ensures value { result ≡ spec.literal_units quote units.now }
     ensures within { IfSome result (λ len. len ≤ length units.now) }
@@ -15,10 +15,11 @@ pub fn literal_len(units: &[u16], quote: u16) -> Option<usize>
     let mut at = 0;
     for _turn in 0..units.len() {
         let rest = &units[at..];
-        if begins_with(quote, rest) {
-            return Some(at + 1);
+        let closing = closing_len(quote, rest);
+        if closing != 0 {
+            return Some(at + closing);
         }
-        at += next_character(rest)?.units;
+        at += next_character(quote, rest)?.units;
     }
     None
 }
@@ -53,7 +54,7 @@ fn push_meaning(value: &mut Vec<u16>, meaning: Meaning) -> Result<(), AllocError
     }
 }
 
-/// The value of a string literal whose opening quote stands before these units.
+/// The value of a string literal whose opening quote stands before these units; between backquotes, that of a template piece.
 pub fn literal_value(alloc: Global, units: &[u16], quote: u16) -> Result<Vec<u16>, AllocError>
     ensures { IfOk result (λ value. spec.IsValueOf quote units.now value.items) }
 {
@@ -61,10 +62,10 @@ pub fn literal_value(alloc: Global, units: &[u16], quote: u16) -> Result<Vec<u16
     let mut at = 0;
     for _turn in 0..units.len() {
         let rest = &units[at..];
-        if begins_with(quote, rest) {
+        if closing_len(quote, rest) != 0 {
             break;
         }
-        let Some(character) = next_character(rest) else {
+        let Some(character) = next_character(quote, rest) else {
             break;
         };
         push_meaning(&mut value, character.meaning)?;

@@ -1,26 +1,30 @@
-ghost use Rattle.std.specs.Prelude.{◌≡◌, ◌<◌, ◌≤◌, Ok, length, All, IfOk, IfErr};
+ghost use Rattle.std.specs.Prelude.{◌≡◌, ◌<◌, ◌≤◌, Ok, [], length, All, IfOk, IfErr};
 ghost use Rattle.sr_lex.specs.Tokens.{Tokens, IsTokenOf, token_units};
 ghost use Rattle.sr_lex.specs.Answers.{Refuses, Gives};
 ghost use Rattle.sr_lex.specs.Strings.{StringLiteral, IsLiteral};
 ghost use Rattle.sr_lex.specs.Numbers.{NumberLiteral};
+ghost use Rattle.sr_lex.specs.Templates.{TemplatePiece, IsPiece};
 ghost use Rattle.sr_lex.specs.Scan as spec;
-ghost use Rattle.sr_lex.specs.declared.token.TokenKind.TheVariants.{Number, Text};
+ghost use Rattle.sr_lex.specs.declared.token.TokenKind.TheVariants.{Number, Text, Template};
 
+use crate::brackets::{in_substitution, pass};
 use crate::gaps::gap;
 use crate::literals::literal_value;
 use crate::numbers::literal_number;
 use crate::rows::row_at_front;
 use crate::token::{LexRefusal, Token};
+use crate::units::BACKQUOTE;
 use sr_num::Num;
 use sr_text::{Str, TextRefusal};
 use std::alloc::{AllocError, Global};
 
 /// The tokens of these units, or the first place at which no token fits.
 fn tokens_of(alloc: Global, text: &[u16]) -> Result<Vec<Token>, LexRefusal>
-    ensures tokens { IfOk result (λ v. spec.lexed (length text.now) 0 text.now ≡ Ok v.items) }
-    ensures refused { IfErr result (λ refusal. Gives (spec.lexed (length text.now) 0 text.now) refusal) }
+    ensures tokens { IfOk result (λ v. spec.lexed (length text.now) 0 [] text.now ≡ Ok v.items) }
+    ensures refused { IfErr result (λ refusal. Gives (spec.lexed (length text.now) 0 [] text.now) refusal) }
 {
     let mut found = Vec::new(alloc);
+    let mut brackets = Vec::new(alloc);
     let mut at = 0;
     let mut unclosed = false;
     for _turn in 0..text.len() {
@@ -29,10 +33,11 @@ fn tokens_of(alloc: Global, text: &[u16]) -> Result<Vec<Token>, LexRefusal>
         if from == text.len() {
             return Ok(found);
         }
-        let Some(row) = row_at_front(&text[from..]) else {
+        let Some(row) = row_at_front(in_substitution(&brackets), &text[from..]) else {
             return Err(LexRefusal::Syntax(from));
         };
         at = from + row.units;
+        pass(&mut brackets, row.kind, &text[from..at])?;
         found.push(Token {
             kind: row.kind,
             from,
@@ -43,8 +48,9 @@ fn tokens_of(alloc: Global, text: &[u16]) -> Result<Vec<Token>, LexRefusal>
     Ok(found)
 }
 
-/// The tokens of the text, from the left (ECMA-262 12). `Syntax` comes exactly where the text has none, with the first
-/// place at which no token fits, and `Memory` where memory runs out.
+/// The tokens of the text, from the left (ECMA-262 12); a template comes in pieces, and the `}` that ends a substitution begins
+/// one (12.9.6). `Syntax` comes exactly where the text has none, with the first place at which no token fits, and `Memory`
+/// where memory runs out.
 pub fn lex(alloc: Global, text: &Str) -> Result<Vec<Token>, LexRefusal>
     ensures tokens { IfOk result (λ v. Tokens text.now v.items) }
     ensures each { IfOk result (λ v. All (IsTokenOf text.now) v.items) }
@@ -93,4 +99,29 @@ pub fn number_value(text: &Str, token: &Token) -> Num
     ensures { NumberLiteral (token_units text.now token.now) result }
 {
     literal_number(&text.units()[token.from..token.to])
+}
+
+/// The value of a template piece.
+fn piece_value(alloc: Global, piece: &[u16]) -> Result<Vec<u16>, AllocError>
+    requires some { 0 < length piece.now }
+    requires piece { IsPiece piece.now }
+    ensures value { IfOk result (λ v. TemplatePiece piece.now v.items) }
+    ensures within { IfOk result (λ v. length v.items ≤ length piece.now) }
+{
+    literal_value(alloc, &piece[1..], BACKQUOTE)
+}
+
+/// The value of a template piece, in which CR and CR LF are LF and a line continuation is nothing (ECMA-262 12.9.6 TV).
+pub fn template_value(alloc: Global, text: &Str, token: &Token) -> Result<Str, AllocError>
+    requires token { IsTokenOf text.now token.now }
+    requires piece { token.now.kind ≡ Template }
+    ensures { IfOk result (λ s. TemplatePiece (token_units text.now token.now) s) }
+{
+    let value = piece_value(alloc, &text.units()[token.from..token.to])?;
+    match Str::of_units(alloc, &value) {
+        Ok(value) => Ok(value),
+        Err(TextRefusal::Memory) => Err(AllocError),
+        Err(TextRefusal::TooLong) => unreachable!(),
+        Err(TextRefusal::NotUtf8(_)) => unreachable!(),
+    }
 }

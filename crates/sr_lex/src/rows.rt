@@ -4,7 +4,7 @@ ghost use Rattle.sr_lex.specs.Scan as spec;
 use crate::literals::literal_len;
 use crate::numbers::{is_safe_value, may_end, number_value};
 use crate::token::TokenKind;
-use crate::units::{is_digit, is_name_part, is_name_start, is_quote};
+use crate::units::{BACKQUOTE, RIGHT_BRACE, is_digit, is_name_part, is_name_start, is_quote};
 
 const EXCLAMATION_MARK: u16 = 0x21;
 
@@ -191,10 +191,18 @@ fn number_row(units: &[u16]) -> Option<Row>
     }
 }
 
-/// The token at the front.
+/// Whether a template piece begins with the unit; `inside` says that the innermost open bracket is a `${`.
+#[tactic(auto, unfolding(crate::specs::Scan::begins_piece))]
+fn begins_piece(inside: bool, unit: u16) -> bool
+    ensures { result ≡ spec.begins_piece inside unit }
+{
+    unit == BACKQUOTE || (inside && unit == RIGHT_BRACE)
+}
+
+/// The token at the front; `inside` says that the innermost open bracket is a `${`.
 #[tactic(auto, unfolding(crate::specs::Scan::row), using(crate::proofs::Punctuators::punctuator_within))]
-pub fn row_at_front(units: &[u16]) -> Option<Row>
-    ensures value { result ≡ spec.row units.now }
+pub fn row_at_front(inside: bool, units: &[u16]) -> Option<Row>
+    ensures value { result ≡ spec.row inside units.now }
     ensures within { IfSome result (λ row. (0 < row.units) × (row.units ≤ length units.now)) }
 {
     let [first, rest @ ..] = units else {
@@ -216,6 +224,13 @@ pub fn row_at_front(units: &[u16]) -> Option<Row>
     }
     if is_digit(first) {
         return number_row(units);
+    }
+    if begins_piece(inside, first) {
+        let len = literal_len(rest, BACKQUOTE)?;
+        return Some(Row {
+            kind: TokenKind::Template,
+            units: len + 1,
+        });
     }
     match punctuator_len(units) {
         0 => None,

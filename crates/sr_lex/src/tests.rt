@@ -1,4 +1,4 @@
-use crate::{LexRefusal, TokenKind, lex, number_value, string_value, token_text};
+use crate::{LexRefusal, TokenKind, lex, number_value, string_value, template_value, token_text};
 use sr_text::Str;
 use std::alloc::Global;
 use std::fmt::Write;
@@ -75,7 +75,7 @@ const TEXTS: [(&str, &str); 57] = [
     ("0x_1", "fails at 0"),
     ("0b2", "fails at 0"),
     ("1n", "fails at 0"),
-    ("a\n`b`", "fails at 2"),
+    ("a\n`b`", "name 0-1 ^template 2-5 "),
     ("a\u{e9}", "fails at 1"),
     ("a\\u0062", "fails at 1"),
     ("'a'\"b\"", "text 0-3 text 3-6 "),
@@ -84,6 +84,112 @@ const TEXTS: [(&str, &str); 57] = [
     ("'\\01'", "fails at 0"),
     ("'\\8'", "fails at 0"),
     ("'\\u{110000}'", "fails at 0"),
+];
+
+/// Templates, and their tokens or the place of failure.
+const TEMPLATES: [(&str, &str); 23] = [
+    ("``", "template 0-2 "),
+    ("a`b`", "name 0-1 template 1-4 "),
+    (
+        "`a${`b${c}d`}e`",
+        "template 0-4 template 4-8 name 8-9 template 9-12 template 12-15 ",
+    ),
+    ("`${}`", "template 0-3 template 3-5 "),
+    (
+        "`${a}${b}`",
+        "template 0-3 name 3-4 template 4-7 name 7-8 template 8-10 ",
+    ),
+    (
+        "`${{}}`",
+        "template 0-3 punctuator 3-4 punctuator 4-5 template 5-7 ",
+    ),
+    (
+        "`${{a:{}}}`",
+        "template 0-3 punctuator 3-4 name 4-5 punctuator 5-6 punctuator 6-7 punctuator 7-8 punctuator 8-9 template 9-11 ",
+    ),
+    (
+        "`${if(a){}}`",
+        "template 0-3 name 3-5 punctuator 5-6 name 6-7 punctuator 7-8 punctuator 8-9 punctuator 9-10 template 10-12 ",
+    ),
+    (
+        "`${{a:`${b}`}}`",
+        "template 0-3 punctuator 3-4 name 4-5 punctuator 5-6 template 6-9 name 9-10 template 10-12 punctuator 12-13 template 13-15 ",
+    ),
+    ("`${a}}`", "template 0-3 name 3-4 template 4-7 "),
+    ("`}`", "template 0-3 "),
+    ("`${`}`}`", "template 0-3 template 3-6 template 6-8 "),
+    ("}", "punctuator 0-1 "),
+    ("}`a`", "punctuator 0-1 template 1-4 "),
+    (
+        "{}`${a}`}",
+        "punctuator 0-1 punctuator 1-2 template 2-5 name 5-6 template 6-8 punctuator 8-9 ",
+    ),
+    (
+        "}${a}",
+        "punctuator 0-1 name 1-2 punctuator 2-3 name 3-4 punctuator 4-5 ",
+    ),
+    ("`${'}'}`", "template 0-3 text 3-6 template 6-8 "),
+    ("`${/*}*/a}`", "template 0-3 name 8-9 template 9-11 "),
+    ("`${a//}\n}`", "template 0-3 name 3-4 ^template 8-10 "),
+    (
+        "`//` /a/",
+        "template 0-4 punctuator 5-6 name 6-7 punctuator 7-8 ",
+    ),
+    ("`/*` */", "template 0-4 punctuator 5-6 punctuator 6-7 "),
+    (
+        "`${a/b}`",
+        "template 0-3 name 3-4 punctuator 4-5 name 5-6 template 6-8 ",
+    ),
+    ("`a${b", "template 0-4 name 4-5 "),
+];
+
+/// Pieces with dollar signs, line ends and escapes, and pieces that are none.
+const PIECES: [(&str, &str); 20] = [
+    ("`$`", "template 0-3 "),
+    ("`$a{}`", "template 0-6 "),
+    ("`$${a}$`", "template 0-4 name 4-5 template 5-8 "),
+    ("`\\${a}`", "template 0-7 "),
+    ("`$\\{a}`", "template 0-7 "),
+    ("`\\``", "template 0-4 "),
+    ("`a\r\nb\nc\rd`", "template 0-10 "),
+    (
+        "`${a}\n${b}`",
+        "template 0-3 name 3-4 template 4-8 name 8-9 template 9-11 ",
+    ),
+    ("`${\n}`", "template 0-3 ^template 4-6 "),
+    ("`\\0`", "template 0-4 "),
+    ("`a", "fails at 0"),
+    ("a `b", "fails at 2"),
+    ("`a\\`", "fails at 0"),
+    ("`a${b}c", "fails at 5"),
+    ("{`${}", "fails at 4"),
+    ("`\\01`", "fails at 0"),
+    ("`\\x4`", "fails at 0"),
+    ("`\\u{110000}`", "fails at 0"),
+    ("`${a}\\8`", "fails at 4"),
+    ("`${a}${\\u0}`", "fails at 7"),
+];
+
+/// Templates, and the values of their pieces, each before `|`.
+const PIECE_VALUES: [(&str, &str); 18] = [
+    ("``", "|"),
+    ("`a`", "a|"),
+    ("`a\r\nb\rc\nd`", "a\nb\nc\nd|"),
+    ("`\r\r\n\n`", "\n\n\n|"),
+    ("`\u{2028}\u{2029}`", "\u{2028}\u{2029}|"),
+    ("`a\\\r\nb\\\rc\\\nd`", "abcd|"),
+    ("`\\\r\r\n`", "\n|"),
+    ("`\\r\\n\\t\\0`", "\r\n\t\0|"),
+    ("`\\x41\\u0042\\u{43}`", "ABC|"),
+    ("`\\u{1F600}\\ud83d\\ude00`", "\u{1F600}\u{1F600}|"),
+    ("`\u{e9}\u{1F600}`", "\u{e9}\u{1F600}|"),
+    ("`$ $$ \\${`", "$ $$ ${|"),
+    ("`\\``", "`|"),
+    ("`'\"{}`", "'\"{}|"),
+    ("`\\'\\a\\\\`", "'a\\|"),
+    ("`a${b}c${d}e`", "a|c|e|"),
+    ("`${}`", "||"),
+    ("`a${`b${c}d`}\r`", "a|b|d|\n|"),
 ];
 
 /// String literals and their values.
@@ -146,6 +252,7 @@ fn shown(alloc: Global, text: &str) -> Result<String, Fail> {
                     TokenKind::Name => "name",
                     TokenKind::Number => "number",
                     TokenKind::Text => "text",
+                    TokenKind::Template => "template",
                     TokenKind::Punctuator => "punctuator",
                 };
                 let from = token.from;
@@ -169,6 +276,53 @@ fn reads_texts(rt: HostRuntime) -> Result<(), Fail> {
 }
 
 #[test]
+fn reads_templates(rt: HostRuntime) -> Result<(), Fail> {
+    let alloc = rt.alloc();
+    for (text, words) in TEMPLATES {
+        assert_eq!(rt; shown(alloc, text)?.as_str(), words, "of {text:?}");
+    }
+    Ok(())
+}
+
+#[test]
+fn reads_pieces(rt: HostRuntime) -> Result<(), Fail> {
+    let alloc = rt.alloc();
+    for (text, words) in PIECES {
+        assert_eq!(rt; shown(alloc, text)?.as_str(), words, "of {text:?}");
+    }
+    Ok(())
+}
+
+/// The values of the template pieces of a text, each before `|`.
+fn piece_values(alloc: Global, text: &Str) -> Result<Vec<u16>, Fail> {
+    let mut values = Vec::new(alloc);
+    let tokens = lex(alloc, text)?;
+    for token in &tokens {
+        match token.kind {
+            TokenKind::Template => {
+                for unit in template_value(alloc, text, token)?.units() {
+                    values.push(*unit)?;
+                }
+                values.push(0x7C)?;
+            }
+            TokenKind::Name | TokenKind::Number | TokenKind::Text | TokenKind::Punctuator => {}
+        }
+    }
+    Ok(values)
+}
+
+#[test]
+fn reads_piece_values(rt: HostRuntime) -> Result<(), Fail> {
+    let alloc = rt.alloc();
+    for (text, values) in PIECE_VALUES {
+        let read = piece_values(alloc, &Str::from_utf8(alloc, text.as_bytes())?)?;
+        let values = Str::from_utf8(alloc, values.as_bytes())?;
+        assert_eq!(rt; read.as_slice(), values.units(), "of {text:?}");
+    }
+    Ok(())
+}
+
+#[test]
 fn reads_string_values(rt: HostRuntime) -> Result<(), Fail> {
     let alloc = rt.alloc();
     for (literal, value) in LITERALS {
@@ -185,7 +339,7 @@ fn reads_string_values(rt: HostRuntime) -> Result<(), Fail> {
                     "of {literal:?}"
                 );
             }
-            TokenKind::Name | TokenKind::Number | TokenKind::Punctuator => {
+            TokenKind::Name | TokenKind::Number | TokenKind::Template | TokenKind::Punctuator => {
                 panic!(rt; "{literal:?} is no literal")
             }
         }
@@ -204,9 +358,10 @@ fn reads_number_values(rt: HostRuntime) -> Result<(), Fail> {
                 let token = tokens[0];
                 match token.kind {
                     TokenKind::Number => number_value(&text, &token).get(),
-                    TokenKind::Name | TokenKind::Text | TokenKind::Punctuator => {
-                        panic!(rt; "{literal:?} is no number")
-                    }
+                    TokenKind::Name
+                    | TokenKind::Text
+                    | TokenKind::Template
+                    | TokenKind::Punctuator => { panic!(rt; "{literal:?} is no number") }
                 }
             }
             Err(_) => None,

@@ -13,6 +13,8 @@ pub enum TokenKind {
     Number,
     /// A string literal.
     Text,
+    /// A piece of a template: from its backquote or the `}` of a substitution to its backquote or the next `${`.
+    Template,
     /// A punctuator.
     Punctuator,
 }

@@ -1,13 +1,18 @@
 ghost use Rattle.std.specs.Prelude.{◌≡◌, ◌≤◌};
 ghost use Rattle.std.specs.Char.{digit_value};
 ghost use Rattle.sr_lex.specs.Units as spec;
-ghost use Rattle.sr_lex.specs.Units.{begins_with_digit};
+ghost use Rattle.sr_lex.specs.Units.{begins_with_digit, begins_with};
 ghost use Rattle.sr_lex.specs.Strings.{is_quote, is_hex_digit, single_escape};
-ghost use Rattle.sr_lex.specs.Scan.{begins_with};
 
 pub const LINE_FEED: u16 = 0x0A;
 
 pub const CARRIAGE_RETURN: u16 = 0x0D;
+
+pub const BACKQUOTE: u16 = 0x60;
+
+pub const LEFT_BRACE: u16 = 0x7B;
+
+pub const RIGHT_BRACE: u16 = 0x7D;
 
 #[tactic(auto, unfolding(crate::specs::Units::is_line_end))]
 pub fn is_line_end(unit: u16) -> bool

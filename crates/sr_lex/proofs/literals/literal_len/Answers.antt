@@ -1,8 +1,8 @@
-use Rattle.std.proofs.Common.{◌≡◌, ◌+◌, ◌-◌, drop, length, false, arith, rules, sym, ap, ◌∙◌}
+use Rattle.std.proofs.Common.{◌≡◌, ◌+◌, ◌-◌, drop, length, arith, rules, sym, ap, ◌∙◌}
 use Rattle.std.specs.Prelude.{Some}
 use Rattle.std.proofs.lemmas.Grind.{common_steps}
 use Rattle.std.proofs.lemmas.List.{take_rest, length-drop, drop-drop}
-use Rattle.sr_lex.specs.Scan.{begins_with, character, literal}
+use Rattle.sr_lex.specs.Scan.{closing_len, character, literal}
 use Rattle.sr_lex.proofs.literals.literal_len.Goals as goal
 use Rattle.sr_lex.proofs.LiteralSteps.{len_from, len_goes}
 
@@ -14,8 +14,9 @@ loop-turn-preserved c =
     let read = c.in_ok-at.field-0 in
     let left = length us - c.loop-turn._turn in
     let later = length us - (c.loop-turn._turn + 1) in
-    let closing : begins_with c.args.quote rest ≡ false = rw take_rest at (sym c.begins_with.ensures ∙ c.if-begins_with.false) in
-    let is : character rest ≡ Some read = rw take_rest at (sym c.in_ok-at.ensures.value) in
+    let none : c.closing_len-closing.result ≡ 0 = omega (arith, c.if-closing-ne0.false) in
+    let closing : closing_len c.args.quote rest ≡ 0 = rw take_rest at (sym c.closing_len-closing.ensures.value ∙ none) in
+    let is : character c.args.quote rest ≡ Some read = rw take_rest at (sym c.in_ok-at.ensures.value) in
     let on : len_from (at + read.units) (literal later c.args.quote (drop (at + read.units) us)) ≡ len_from at (literal left c.args.quote rest) =
     ap (λ r. len_from (at + read.units) (literal later c.args.quote r)) (sym (drop-drop read.units at us))
     ∙ sym (len_goes left later c.args.quote at rest read (omega arith) closing is) in

@@ -1,11 +1,14 @@
-use Rattle.std.proofs.Common.{◌≡◌, ◌+◌, ◌-◌, ◌≤◌, ◌≢◌, ◌++◌, [], ◌∷◌, ℕ, List, drop, length, arith, rules, sym, ap, ◌∙◌, subst}
-use Rattle.std.specs.Prelude.{IsTrue, ◌==◌, Some, None, Ok}
+use Rattle.std.proofs.Common.{◌≡◌, ◌+◌, ◌-◌, ◌≤◌, ◌≢◌, ◌++◌, [], ◌∷◌, ℕ, List, Bool, take, drop, length, reverse, arith, rules, sym, ap, ◌∙◌, subst}
+use Rattle.std.specs.Prelude.{IsTrue, ◌==◌, Some, None, Ok, slice_range}
 use Rattle.std.proofs.lemmas.Grind.{common_steps}
 use Rattle.std.proofs.lemmas.List.{take_rest, length-drop, drop-drop, append-nil}
 use Rattle.sr_lex.specs.Scan.{gap, row, token_of, lexed}
+use Rattle.sr_lex.specs.Brackets.{in_substitution, brackets_after}
 use Rattle.sr_lex.specs.Closed.{NoClose}
 use Rattle.sr_lex.specs.declared.token.Token.{Token}
+use Rattle.sr_lex.specs.declared.brackets.Bracket.{Bracket}
 use Rattle.sr_lex.proofs.reading.tokens_of.Goals as goal
+use Rattle.sr_lex.proofs.Places.{range_is}
 use Rattle.sr_lex.proofs.GapSteps.{closed_on}
 use Rattle.sr_lex.proofs.TextSteps.{behind, text_ends, text_fails, text_goes}
 
@@ -14,13 +17,14 @@ returns-then-from-text-clause-tokens c =
     let text = c.args.text.now in
     let at = c.loop-turn.at in
     let us = drop at text in
+    let bs = reverse c.loop-turn.brackets.items in
     let g = c.gap-gap.result in
     let left = length text - c.loop-turn._turn in
     let later = length text - (c.loop-turn._turn + 1) in
     let is : gap (length us) (at == 0) us ≡ g = rw take_rest at (sym c.gap-gap.ensures.value) in
     let over : length (drop g.units us) ≡ 0 = omega (arith, length-drop g.units us, length-drop at text, c.if-from-text.true) in
     sym c.loop-turn.invariant.told
-    ∙ ap (behind c.loop-turn.found.items) (text_ends left later at us g (omega arith) is over)
+    ∙ ap (behind c.loop-turn.found.items) (text_ends left later at bs us g (omega arith) is over)
     ∙ ap Ok (append-nil c.loop-turn.found.items)
 
 pub returns-in_default-clause-refused : goal.returns-in_default-clause-refused
@@ -28,22 +32,27 @@ returns-in_default-clause-refused c =
     let text = c.args.text.now in
     let at = c.loop-turn.at in
     let us = drop at text in
+    let bs = reverse c.loop-turn.brackets.items in
     let g = c.gap-gap.result in
     let left = length text - c.loop-turn._turn in
     let later = length text - (c.loop-turn._turn + 1) in
     let is : gap (length us) (at == 0) us ≡ g = rw take_rest at (sym c.gap-gap.ensures.value) in
     let within : g.units ≤ length us = rw take_rest at c.gap-gap.ensures.within in
     let more : length (drop g.units us) ≢ 0 = λ h. c.if-from-text.false (omega (arith, length-drop g.units us, length-drop at text, c.loop-turn.invariant.within)) in
-    let read : row (drop (at + g.units) text) ≡ None = rw take_rest at (sym c.row_at_front.ensures.value ∙ c.in_default.is) in
-    let none : row (drop g.units us) ≡ None = ap row (drop-drop g.units at text) ∙ read in
+    let inside : c.in_substitution.result ≡ in_substitution bs =
+    c.in_substitution.ensures ∙ ap (λ (xs : List Bracket). in_substitution (reverse xs)) c.deref.ensures.value in
+    let read : row c.in_substitution.result (drop (at + g.units) text) ≡ None = rw take_rest at (sym c.row_at_front.ensures.value ∙ c.in_default.is) in
+    let none : row (in_substitution bs) (drop g.units us) ≡ None =
+    ap (row (in_substitution bs)) (drop-drop g.units at text) ∙ ap (λ (i : Bool). row i (drop (at + g.units) text)) (sym inside) ∙ read in
     sym c.loop-turn.invariant.told
-    ∙ ap (behind c.loop-turn.found.items) (text_fails left later at us g (omega arith) is more none)
+    ∙ ap (behind c.loop-turn.found.items) (text_fails left later at bs us g (omega arith) is more none)
 
 pub loop-turn-preserved : goal.loop-turn-preserved
 loop-turn-preserved c =
     let text = c.args.text.now in
     let at = c.loop-turn.at in
     let us = drop at text in
+    let bs = reverse c.loop-turn.brackets.items in
     let g = c.gap-gap.result in
     let r = c.in-Some.row in
     let from = at + g.units in
@@ -53,15 +62,23 @@ loop-turn-preserved c =
     let is : gap (length us) (at == 0) us ≡ g = rw take_rest at (sym c.gap-gap.ensures.value) in
     let within : g.units ≤ length us = rw take_rest at c.gap-gap.ensures.within in
     let more : length (drop g.units us) ≢ 0 = λ h. c.if-from-text.false (omega (arith, length-drop g.units us, length-drop at text, c.loop-turn.invariant.within)) in
-    let read : row (drop from text) ≡ Some r = rw take_rest at (sym c.in-Some.ensures.value) in
-    let some : row (drop g.units us) ≡ Some r = ap row (drop-drop g.units at text) ∙ read in
+    let inside : c.in_substitution.result ≡ in_substitution bs =
+    c.in_substitution.ensures ∙ ap (λ (xs : List Bracket). in_substitution (reverse xs)) c.deref.ensures.value in
+    let read : row c.in_substitution.result (drop from text) ≡ Some r = rw take_rest at (sym c.in-Some.ensures.value) in
+    let some : row (in_substitution bs) (drop g.units us) ≡ Some r =
+    ap (row (in_substitution bs)) (drop-drop g.units at text) ∙ ap (λ (i : Bool). row i (drop from text)) (sym inside) ∙ read in
+    let own : slice_range text from (from + r.units) ≡ take r.units (drop g.units us) =
+    range_is text from r.units ∙ ap (take r.units) (sym (drop-drop g.units at text)) in
+    let after = brackets_after bs r.kind (take r.units (drop g.units us)) in
+    let passed : reverse c.pass.new.brackets.items ≡ after = c.in_ok-pass.ensures ∙ ap (brackets_after bs r.kind) own in
     let pushed : c.push.new.self.items ≡ ts ++ (token_of r from g.line ∷ []) = search (rules, c.in_ok-push.ensures) in
     let there : drop (from + r.units) text ≡ drop r.units (drop g.units us) =
     sym (drop-drop r.units from text) ∙ ap (drop r.units) (sym (drop-drop g.units at text)) in
-    let on : behind c.push.new.self.items (lexed later (from + r.units) (drop (from + r.units) text)) ≡ behind ts (lexed left at us) =
-    ap (λ (xs : List Token). behind xs (lexed later (from + r.units) (drop (from + r.units) text))) pushed
-    ∙ ap (λ (xs : List ℕ). behind (ts ++ (token_of r from g.line ∷ [])) (lexed later (from + r.units) xs)) there
-    ∙ sym (text_goes left later at us ts g r (omega arith) is more some) in
+    let on : behind c.push.new.self.items (lexed later (from + r.units) (reverse c.pass.new.brackets.items) (drop (from + r.units) text)) ≡ behind ts (lexed left at bs us) =
+    ap (λ (xs : List Token). behind xs (lexed later (from + r.units) (reverse c.pass.new.brackets.items) (drop (from + r.units) text))) pushed
+    ∙ ap (λ (cs : List Bracket). behind (ts ++ (token_of r from g.line ∷ [])) (lexed later (from + r.units) cs (drop (from + r.units) text))) passed
+    ∙ ap (λ (xs : List ℕ). behind (ts ++ (token_of r from g.line ∷ [])) (lexed later (from + r.units) after xs)) there
+    ∙ sym (text_goes left later at bs us ts g r (omega arith) is more some) in
     let closed : IsTrue c.gap-gap.new.unclosed → NoClose (drop 2 (drop g.units us)) = rw take_rest at c.gap-gap.ensures.unclosed in
     record {
       told = on ∙ c.loop-turn.invariant.told;
