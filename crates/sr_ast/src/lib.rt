@@ -1,8 +1,12 @@
 //! The trees of a text.
 #![tactic(auto)]
 
+/// Names that are bound.
+mod binding;
 /// A tree above the trees: what frames and function values hold.
 mod code;
+/// Imports and exports.
+mod module;
 /// The operators.
 mod operators;
 /// A script.
@@ -10,7 +14,9 @@ mod script;
 /// The trees.
 mod tree;
 
+pub use binding::{Binding, HeadBinding, HeadKind, LexicalKind, Parameters, PropertyName};
 pub use code::Code;
-pub use operators::{AssignOp, BinaryOp, LogicalOp, UnaryOp, UpdateOp};
+pub use module::{ExportName, ImportName, Imports};
+pub use operators::{AssignOp, BinaryOp, Link, LogicalOp, UnaryOp, UpdateOp};
 pub use script::ScriptCode;
-pub use tree::{Declaration, Node, Tree};
+pub use tree::{Case, Declaration, Element, Node, Property, Tree};

@@ -27,6 +27,10 @@ pub enum BinaryOp {
     LessOrEqual,
     /// `>=`
     GreaterOrEqual,
+    /// `instanceof`
+    InstanceOf,
+    /// `in`
+    In,
     /// `==`
     Equal,
     /// `!=`
@@ -68,6 +72,8 @@ pub enum AssignOp {
 /// An operator before its operand (ECMA-262 13.5).
 #[derive(Clone, Copy, Debug, PartialEq, Eq)]
 pub enum UnaryOp {
+    /// `delete`
+    Delete,
     /// `void`
     Void,
     /// `typeof`
@@ -93,4 +99,15 @@ pub enum UpdateOp {
     PostIncrement,
     /// `--` after it
     PostDecrement,
+}
+
+/// How a property or a call is linked to what stands before it (ECMA-262 13.3).
+#[derive(Clone, Copy, Debug, PartialEq, Eq)]
+pub enum Link {
+    /// Plainly.
+    Plain,
+    /// By `?.`, which begins or goes on with an optional chain.
+    Optional,
+    /// Plainly, within an optional chain: it is left out where the chain ends before it.
+    Chained,
 }
