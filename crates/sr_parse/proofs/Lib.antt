@@ -1,5 +1,4 @@
 pub mod Turns
 pub mod Rows
-pub mod Steps
 pub mod Outcomes
 pub mod OneOutcome

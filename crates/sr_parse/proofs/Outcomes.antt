@@ -6,13 +6,13 @@ use Rattle.sr_lex.specs.declared.token.LexRefusal.TheVariants as lexical
 use Rattle.sr_lex.specs.Answers.{Refuses}
 use Rattle.sr_lex.specs.Tokens.{Tokens}
 use Rattle.sr_ast.specs.declared.tree.Tree.{Tree}
-use Rattle.sr_parse.specs.declared.sorts.Lexeme.{Lexeme}
-use Rattle.sr_parse.specs.declared.refusal.Refusal.{Refusal}
-use Rattle.sr_parse.specs.declared.refusal.Refusal.TheVariants.{Memory}
-use Rattle.sr_parse.specs.Lexemes.{Lexemes}
-use Rattle.sr_parse.specs.Input.{Input, Outcome, Reads, start}
-use Rattle.sr_parse.specs.Grammar.{script, script_of, value_of}
-use Rattle.sr_parse.specs.Refused.{refused}
+use Rattle.sr_syntax.specs.declared.sorts.Lexeme.{Lexeme}
+use Rattle.sr_syntax.specs.declared.refusal.Refusal.{Refusal}
+use Rattle.sr_syntax.specs.declared.refusal.Refusal.TheVariants.{Memory}
+use Rattle.sr_syntax.specs.Lexemes.{Lexemes}
+use Rattle.sr_syntax.specs.Input.{Input, Outcome, Reads, start}
+use Rattle.sr_syntax.specs.Grammar.{script, script_of, value_of}
+use Rattle.sr_syntax.specs.Refused.{refused}
 use Rattle.sr_parse.specs.Readings.{ReadsStatements, IsScript, no_tokens, tokens}
 
 pub value_read : {A : Type 0} (o : Outcome A) (r : Result A Refusal) (new : Input) → Reads o r new → r ≢ Err Memory → value_of o ≡ r

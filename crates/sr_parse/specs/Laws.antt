@@ -1,15 +1,8 @@
 -- What holds of how texts are read.
 use Rattle.std.specs.Prelude.{◌≡◌, ℕ, List, Result}
-use Rattle.sr_lex.specs.declared.token.Token.{Token}
 use Rattle.sr_ast.specs.declared.tree.Tree.{Tree}
-use Rattle.sr_parse.specs.declared.sorts.Lexeme.{Lexeme}
-use Rattle.sr_parse.specs.declared.refusal.Refusal.{Refusal}
-use Rattle.sr_parse.specs.Lexemes.{Lexemes}
+use Rattle.sr_syntax.specs.declared.refusal.Refusal.{Refusal}
 use Rattle.sr_parse.specs.Readings.{IsScript}
-
--- the tokens of a text are one list of tokens to the grammar
-abbrev pub OneSorting : Type 0
-OneSorting = (text : List ℕ) (ts : List Token) (ls ms : List Lexeme) → Lexemes text ts ls → Lexemes text ts ms → ls ≡ ms
 
 -- a text is read as one list of statements, or refused for one reason
 abbrev pub OneScript : Type 0

@@ -3,13 +3,13 @@ use Rattle.std.specs.Prelude.{◌≡◌, ℕ, ◌-◌, List, length, drop, Resul
 use Rattle.sr_lex.specs.declared.token.Token.{Token}
 use Rattle.sr_lex.specs.Tokens.{Tokens, FailsAt}
 use Rattle.sr_ast.specs.declared.tree.Tree.{Tree}
-use Rattle.sr_parse.specs.declared.sorts.Lexeme.{Lexeme}
-use Rattle.sr_parse.specs.declared.refusal.Refusal.{Refusal}
-use Rattle.sr_parse.specs.declared.refusal.Refusal.TheVariants.{Syntax}
-use Rattle.sr_parse.specs.declared.grown.Grown.{Grown}
-use Rattle.sr_parse.specs.Lexemes.{Lexemes}
-use Rattle.sr_parse.specs.Input.{Outcome, Parser, left, start}
-use Rattle.sr_parse.specs.Grammar.{script_of}
+use Rattle.sr_syntax.specs.declared.sorts.Lexeme.{Lexeme}
+use Rattle.sr_syntax.specs.declared.refusal.Refusal.{Refusal}
+use Rattle.sr_syntax.specs.declared.refusal.Refusal.TheVariants.{Syntax}
+use Rattle.sr_syntax.specs.declared.grown.Grown.{Grown}
+use Rattle.sr_syntax.specs.Lexemes.{Lexemes}
+use Rattle.sr_syntax.specs.Input.{Outcome, Parser, left, start}
+use Rattle.sr_syntax.specs.Grammar.{script_of}
 
 -- the tree that was read, and the number of the first of so many tokens that is left
 abbrev pub tree_and_number : ℕ → Outcome Grown → Result (Tree × ℕ) Refusal

@@ -1,14 +1,14 @@
 ghost use Rattle.std.specs.Prelude.{◌≡◌};
-ghost use Rattle.sr_parse.specs.Input as input;
-ghost use Rattle.sr_parse.specs.Input.{Reads};
-ghost use Rattle.sr_parse.specs.Grammar as spec;
-ghost use Rattle.sr_parse.specs.Nests.{Nests};
+ghost use Rattle.sr_syntax.specs.Input as input;
+ghost use Rattle.sr_syntax.specs.Input.{Reads};
+ghost use Rattle.sr_syntax.specs.Grammar as spec;
+ghost use Rattle.sr_syntax.specs.Nests.{Nests};
 
-use crate::grown::{Goal, Grown};
-use crate::refusal::Refusal;
-use crate::tokens::Tokens;
 use sr_ast::{Node, Tree};
 use sr_shared::Shared;
+use sr_syntax::grown::{Goal, Grown};
+use sr_syntax::refusal::Refusal;
+use sr_syntax::tokens::Tokens;
 use std::alloc::Global;
 
 /// The depth that no tree exceeds.
@@ -35,7 +35,7 @@ impl<F: Fn(Global, &mut Tokens<'_>, usize, Goal) -> Result<Grown, Refusal>> Gram
     }
 
     /// A whole tree from this place on, above parts of this depth.
-    #[tactic(auto, unfolding(crate::specs::Input::complete))]
+    #[tactic(auto, unfolding(sr_syntax::specs::Input::complete))]
     pub fn complete(
         &self,
         tokens: &Tokens<'_>,
@@ -66,9 +66,11 @@ impl<F: Fn(Global, &mut Tokens<'_>, usize, Goal) -> Result<Grown, Refusal>> Gram
     {
         match goal {
             Goal::Statement => self.statement(tokens),
-            Goal::Assign => self.assign(tokens),
+            Goal::Assign => self.assign(tokens, true),
+            Goal::AssignWithoutIn => self.assign(tokens, false),
             Goal::Power => self.power(tokens),
             Goal::Unary => self.unary(tokens),
+            Goal::New => self.new(tokens),
         }
     }
 }

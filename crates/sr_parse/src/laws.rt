@@ -1,16 +1,7 @@
-ghost use Rattle.sr_parse.specs.Laws.{OneSorting, OneScript, EachScript};
+ghost use Rattle.sr_parse.specs.Laws.{OneScript, EachScript};
 
-use sr_lex::laws::{
-    each_text_is_read, one_failure, one_number, one_reading, one_value, tokens_or_failure,
-};
-
-/// The tokens of a text are one list of tokens to the grammar.
-pub fn one_sorting()
-    ensures { OneSorting }
-{
-    one_value();
-    one_number();
-}
+use sr_lex::laws::{each_text_is_read, one_failure, one_reading, tokens_or_failure};
+use sr_syntax::laws::one_sorting;
 
 /// A text is read as one list of statements at most, or refused for one reason.
 pub fn one_script()

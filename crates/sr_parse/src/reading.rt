@@ -1,20 +1,20 @@
 ghost use Rattle.std.specs.Prelude.{◌≡◌, ◌≢◌, ◌≤◌, All, Err, length};
 ghost use Rattle.sr_lex.specs.Tokens.{IsTokenOf};
-ghost use Rattle.sr_parse.specs.declared.refusal.Refusal.TheVariants.{Memory};
-ghost use Rattle.sr_parse.specs.Input.{Reads, start};
-ghost use Rattle.sr_parse.specs.Grammar as spec;
+ghost use Rattle.sr_syntax.specs.declared.refusal.Refusal.TheVariants.{Memory};
+ghost use Rattle.sr_syntax.specs.Input.{Reads, start};
+ghost use Rattle.sr_syntax.specs.Grammar as spec;
 ghost use Rattle.sr_parse.specs.Readings.{ReadsAs, ReadsStatements, IsScript};
 
 use crate::grammar::{Grammar, tree};
-use crate::grown::{Goal, Grown};
-use crate::lexemes::lexemes;
-use crate::refusal::Refusal;
-use crate::sorts::{Sort, same_sort};
-use crate::tokens::Tokens;
 use sqlite_items::Items;
 use sr_ast::Tree;
 use sr_lex::{Token, lex};
 use sr_shared::Shared;
+use sr_syntax::grown::{Goal, Grown};
+use sr_syntax::lexemes::lexemes;
+use sr_syntax::refusal::Refusal;
+use sr_syntax::sorts::{Sort, same_sort};
+use sr_syntax::tokens::Tokens;
 use sr_text::Str;
 use std::alloc::Global;
 
@@ -22,7 +22,7 @@ use std::alloc::Global;
 const MAX_OPEN: usize = 1000;
 
 /// An expression.
-#[tactic(auto, unfolding(crate::specs::Grammar::whole_expression))]
+#[tactic(auto, unfolding(sr_syntax::specs::Grammar::whole_expression))]
 fn expression(alloc: Global, tokens: &mut Tokens<'_>) -> Result<Grown, Refusal>
     ensures { Reads (spec.whole_expression tokens.old) result tokens.new }
 {
@@ -31,11 +31,11 @@ fn expression(alloc: Global, tokens: &mut Tokens<'_>) -> Result<Grown, Refusal>
         depth: MAX_OPEN,
         tree,
     }
-    .expression(tokens)
+    .expression(tokens, true)
 }
 
 /// A statement.
-#[tactic(auto, unfolding(crate::specs::Grammar::whole_item))]
+#[tactic(auto, unfolding(sr_syntax::specs::Grammar::whole_item))]
 fn item(alloc: Global, tokens: &mut Tokens<'_>) -> Result<Grown, Refusal>
     ensures { Reads (spec.whole_item tokens.old) result tokens.new }
 {
@@ -43,7 +43,7 @@ fn item(alloc: Global, tokens: &mut Tokens<'_>) -> Result<Grown, Refusal>
 }
 
 /// Statements to the end of the text (ECMA-262 16.1).
-#[tactic(auto, unfolding(crate::specs::Grammar::script, crate::specs::Grammar::script_from))]
+#[tactic(auto, unfolding(sr_syntax::specs::Grammar::script, sr_syntax::specs::Grammar::script_from))]
 fn script(alloc: Global, tokens: &mut Tokens<'_>) -> Result<Items<Shared<Tree>>, Refusal>
     ensures { Reads (spec.script tokens.old) result tokens.new }
 {

@@ -1,5 +1,5 @@
 use crate::{Refusal, parse_expr, parse_item, parse_script};
-use sr_ast::{Declaration, Node, Tree};
+use sr_ast::{Declaration, Element, Link, Node, Tree};
 use sr_lex::lex;
 use sr_shared::Shared;
 use sr_text::Str;
@@ -52,8 +52,8 @@ const OPERATORS: [(&str, &str); 23] = [
 /// The same, of targets, calls and sequences.
 const TARGETS: [(&str, &str); 23] = [
     ("(a && b) ?? c", "(expression (Coalesce (And a b) c))"),
-    ("a instanceof b", "fails at 2"),
-    ("a in b", "fails at 2"),
+    ("a instanceof b", "(expression (InstanceOf a b))"),
+    ("a in b in c", "(expression (In (In a b) c))"),
     (
         "void typeof +-~!a",
         "(expression (Void (Typeof (Plus (Minus (BitNot (Not a)))))))",
@@ -72,22 +72,25 @@ const TARGETS: [(&str, &str); 23] = [
     ("f()", "(expression (call f))"),
     ("f(,)", "fails at 2"),
     ("f(a b", "fails at 4"),
-    ("a = b += c", "(expression (Plain a (Compound(Add) b c)))"),
+    (
+        "a = b += c",
+        "(expression (Plain:name a (Compound(Add):name b c)))",
+    ),
     ("(a) = 1", "(expression (Plain a 1))"),
     (
         "a &&= b ||= c ??= d",
-        "(expression (Logical(And) a (Logical(Or) b (Logical(Coalesce) c d))))",
+        "(expression (Logical(And):name a (Logical(Or):name b (Logical(Coalesce):name c d))))",
     ),
     (
         "a >>>= b **= c",
-        "(expression (Compound(ShiftRightUnsigned) a (Compound(Power) b c)))",
+        "(expression (Compound(ShiftRightUnsigned):name a (Compound(Power):name b c)))",
     ),
     ("a + b = c", "fails at 6"),
     ("a() = c", "fails at 4"),
     ("a ? b : c ? d : e", "(expression (cond a b (cond c d e)))"),
     (
         "a ? b = 1 : c = 2",
-        "(expression (cond a (Plain b 1) (Plain c 2)))",
+        "(expression (cond a (Plain:name b 1) (Plain:name c 2)))",
     ),
 ];
 
@@ -99,12 +102,12 @@ const TOKENS: [(&str, &str); 23] = [
     ("null true false 1", "fails at 5"),
     (
         "null\ntrue\n0x10\n'a\\x62'",
-        "(expression null) (expression true) (expression 16) (expression 'ab')",
+        "(expression null) (expression true) (expression 16) (directive 'ab')",
     ),
     ("'' + \"\"", "(expression (Add '' ''))"),
-    ("this", "fails at 0"),
+    ("class", "fails at 0"),
     ("let a", "fails at 0"),
-    ("a.b", "fails at 1"),
+    ("a.", "fails at 2"),
     ("a => b", "fails at 2"),
     ("()", "fails at 1"),
     ("(a", "fails at 2"),
@@ -152,8 +155,133 @@ const STATEMENTS: [(&str, &str); 21] = [
     ("function f() {}", "fails at 0"),
 ];
 
+/// The same, of properties, optional chains and `new`.
+const PROPERTIES: [(&str, &str); 21] = [
+    ("a.b.c", "(expression (.c (.b a)))"),
+    (
+        "a[b][c, d]",
+        "(expression (index (index a b) (sequence c d)))",
+    ),
+    ("a.if", "(expression (.if a))"),
+    ("a.1", "fails at 1"),
+    ("a.'b'", "fails at 2"),
+    ("a[]", "fails at 2"),
+    ("this.a", "(expression (.a this))"),
+    (
+        "a?.b.c(d)?.[e]?.(f)",
+        "(expression (?call (?index (~call (~.c (?.b a)) d) e) f))",
+    ),
+    ("a.b?.c[d]", "(expression (~index (?.c (.b a)) d))"),
+    ("(a?.b).c", "(expression (.c (?.b a)))"),
+    ("a?.", "fails at 3"),
+    ("new a", "(expression (new a))"),
+    ("new a()", "(expression (new() a))"),
+    ("new a.b[c](d)", "(expression (new() (index (.b a) c) d))"),
+    ("new a().b()", "(expression (call (.b (new() a))))"),
+    ("new new a", "(expression (new (new a)))"),
+    ("new new a()", "(expression (new (new() a)))"),
+    ("new new a()()", "(expression (new() (new() a)))"),
+    ("new new a().b()", "(expression (new() (.b (new() a))))"),
+    ("new (a())", "(expression (new (call a)))"),
+    ("new a?.b", "fails at 5"),
+];
+
+/// The same, of arrays and arguments, and of what they and properties are to operators.
+const ELEMENTS: [(&str, &str); 24] = [
+    ("[]", "(expression array)"),
+    ("[,]", "(expression (array _))"),
+    ("[a,]", "(expression (array a))"),
+    ("[a,,b]", "(expression (array a _ b))"),
+    ("[,,a,,]", "(expression (array _ _ a _))"),
+    ("[...a, ...b]", "(expression (array ...a ...b))"),
+    ("[...]", "fails at 4"),
+    ("[a b]", "fails at 3"),
+    ("[a", "fails at 2"),
+    ("f(...a, b,)", "(expression (call f ...a b))"),
+    ("f(a,,b)", "fails at 4"),
+    ("[a][0]", "(expression (index (array a) 0))"),
+    ("a.b = 1", "(expression (Plain (.b a) 1))"),
+    ("a[0] += 1", "(expression (Compound(Add) (index a 0) 1))"),
+    ("a?.b = 1", "fails at 5"),
+    ("new a = 1", "fails at 6"),
+    ("(a.b) = 1", "(expression (Plain (.b a) 1))"),
+    ("a = 1", "(expression (Plain:name a 1))"),
+    ("++a.b", "(expression (PreIncrement (.b a)))"),
+    ("++a?.b", "fails at 3"),
+    ("a[b]--", "(expression (PostDecrement (index a b)))"),
+    ("a()++", "fails at 3"),
+    ("delete a.b", "(expression (Delete (.b a)))"),
+    ("delete -a", "(expression (Delete (Minus a)))"),
+];
+
+/// The same, of `in` in the head of a `for`, and of string literals as statements.
+const HEADS: [(&str, &str); 14] = [
+    ("for (a in b; ;) ;", "fails at 7"),
+    ("for (var i = a in b; ;) ;", "fails at 15"),
+    ("for (x = a ? b : c in d; ;) ;", "fails at 19"),
+    (
+        "for (x = (a in b); ;) ;",
+        "(for1 (Plain:name x (In a b)) empty)",
+    ),
+    (
+        "for (x = [a in b]; ;) ;",
+        "(for1 (Plain:name x (array (In a b))) empty)",
+    ),
+    (
+        "for (x(a in b)[c in d]; ;) ;",
+        "(for1 (index (call x (In a b)) (In c d)) empty)",
+    ),
+    (
+        "for (x = a ? b in c : d; ;) ;",
+        "(for1 (Plain:name x (cond a (In b c) d)) empty)",
+    ),
+    (
+        "for (var i = (a in b), j; ;) ;",
+        "(for1 (var(i= j) (In a b)) empty)",
+    ),
+    (
+        "for (; a in b; c in d) ;",
+        "(for23 (In a b) (In c d) empty)",
+    ),
+    ("var i = a in b", "(var(i=) (In a b))"),
+    ("'a'", "(directive 'a')"),
+    ("('a')", "(expression 'a')"),
+    ("'a' + b", "(expression (Add 'a' b))"),
+    ("a\n'b'", "(expression a) (directive 'b')"),
+];
+
+/// The same, of templates, with their texts and then the expressions between these.
+const TEMPLATES: [(&str, &str); 17] = [
+    ("``", "(expression template'')"),
+    ("`a\\x62\r\nc`", "(expression template'ab\nc')"),
+    ("`${a}`", "(expression (template'''' a))"),
+    ("`a${b}c${d}e`", "(expression (template'a''c''e' b d))"),
+    ("`${a, b}`", "(expression (template'''' (sequence a b)))"),
+    (
+        "`${`${a}`}b`",
+        "(expression (template'''b' (template'''' a)))",
+    ),
+    ("`${a}${b}`", "(expression (template'''''' a b))"),
+    (
+        "for (`${a in b}`; ;) ;",
+        "(for1 (template'''' (In a b)) empty)",
+    ),
+    ("+`a`.b", "(expression (Plus (.b template'a')))"),
+    ("new `a`", "(expression (new template'a'))"),
+    (
+        "f(`a`, ...`${b}`)",
+        "(expression (call f template'a' ...(template'''' b)))",
+    ),
+    ("`a` = b", "fails at 4"),
+    ("`${}`", "fails at 3"),
+    ("`${a b}`", "fails at 5"),
+    ("`${a", "fails at 4"),
+    ("a`b`", "fails at 1"),
+    ("`a", "fails at 0"),
+];
+
 /// Texts of one statement, and the places of its tree and of its first part.
-const PLACES: [(&str, usize, usize, usize, usize); 7] = [
+const PLACES: [(&str, usize, usize, usize, usize); 11] = [
     (" a + b ;", 1, 8, 1, 6),
     ("(a) + b", 1, 7, 1, 7),
     ("((a), b)", 2, 8, 2, 7),
@@ -161,16 +289,24 @@ const PLACES: [(&str, usize, usize, usize, usize); 7] = [
     ("(f)(a);", 1, 7, 1, 6),
     ("(a) ? b : c", 1, 11, 1, 11),
     ("(a) = b\n", 1, 7, 1, 7),
+    ("(a).b", 1, 5, 1, 5),
+    ("(a)[b];", 1, 7, 1, 6),
+    (" new (a)", 1, 8, 1, 8),
+    ("[a]", 0, 3, 0, 3),
 ];
 
 /// An opening, a middle and a closing text, and how often the outer two may stand around the middle one.
-const LIMITS: [(&str, &str, &str, u32); 6] = [
+const LIMITS: [(&str, &str, &str, u32); 10] = [
     ("(", "a", ")", 332),
     ("{", "", "}", 1000),
     ("!", "a", "", 996),
     ("a+", "a", "", 998),
     ("a=", "a", "", 996),
     ("if(a)", ";", "", 997),
+    ("[", "a", "]", 332),
+    ("new ", "a", "", 996),
+    ("`${", "a", "}`", 332),
+    ("", "a", ".b", 998),
 ];
 
 /// The characters of a string of ASCII.
@@ -202,27 +338,81 @@ fn spell_number(out: &mut String, value: Option<i64>) -> Result<(), AllocError> 
     }
 }
 
-/// What a tree is, without its parts.
-fn head(out: &mut String, tree: &Tree) -> Result<(), AllocError> {
+/// Before the kind of a property or a call, how it is linked.
+fn spell_link(out: &mut String, link: Link) -> Result<(), AllocError> {
+    match link {
+        Link::Plain => Ok(()),
+        Link::Optional => write!(out, "?"),
+        Link::Chained => write!(out, "~"),
+    }
+}
+
+fn spell_quoted(out: &mut String, text: &Str) -> Result<(), AllocError> {
+    write!(out, "'")?;
+    spell(out, text)?;
+    write!(out, "'")
+}
+
+fn spell_texts(out: &mut String, texts: &[Str]) -> Result<(), AllocError> {
+    for text in texts {
+        spell_quoted(out, text)?;
+    }
+    Ok(())
+}
+
+/// What a property, a call or a `new` is, without its parts.
+fn access_head(out: &mut String, tree: &Tree) -> Result<(), AllocError> {
+    match &tree.node {
+        Node::Member(link, _, name) => {
+            spell_link(out, *link)?;
+            write!(out, ".")?;
+            spell(out, name)
+        }
+        Node::Index(link, _, _) => {
+            spell_link(out, *link)?;
+            write!(out, "index")
+        }
+        Node::Call(link, _, _) => {
+            spell_link(out, *link)?;
+            write!(out, "call")
+        }
+        Node::New(_, None) => write!(out, "new"),
+        Node::New(_, Some(_)) => write!(out, "new()"),
+        _ => write!(out, "other"),
+    }
+}
+
+/// What an expression is, without its parts; an assignment that may give a name is marked.
+fn expression_head(out: &mut String, tree: &Tree) -> Result<(), AllocError> {
     match &tree.node {
         Node::Sequence(_) => write!(out, "sequence"),
-        Node::Assign(op, _, _) => write!(out, "{op:?}"),
+        Node::Assign(op, _, _, true) => write!(out, "{op:?}:name"),
+        Node::Assign(op, _, _, false) => write!(out, "{op:?}"),
         Node::Cond(_, _, _) => write!(out, "cond"),
         Node::Logical(op, _, _) => write!(out, "{op:?}"),
         Node::Binary(op, _, _) => write!(out, "{op:?}"),
         Node::Unary(op, _) => write!(out, "{op:?}"),
         Node::Update(op, _) => write!(out, "{op:?}"),
-        Node::Call(_, _) => write!(out, "call"),
+        Node::This => write!(out, "this"),
         Node::Name(name) => spell(out, name),
         Node::Null => write!(out, "null"),
         Node::Bool(value) => write!(out, "{value}"),
         Node::Num(value) => spell_number(out, value.get()),
-        Node::Text(value) => {
-            write!(out, "'")?;
-            spell(out, value)?;
-            write!(out, "'")
+        Node::Text(value) => spell_quoted(out, value),
+        Node::Template(texts, _) => {
+            write!(out, "template")?;
+            spell_texts(out, texts.as_slice())
         }
+        Node::Array(_) => write!(out, "array"),
+        _ => access_head(out, tree),
+    }
+}
+
+/// What a tree is, without its parts.
+fn head(out: &mut String, tree: &Tree) -> Result<(), AllocError> {
+    match &tree.node {
         Node::Expression(_) => write!(out, "expression"),
+        Node::Directive(_) => write!(out, "directive"),
         Node::Var(declarations) => {
             write!(out, "var(")?;
             spell_names(out, declarations.as_slice())?;
@@ -239,17 +429,20 @@ fn head(out: &mut String, tree: &Tree) -> Result<(), AllocError> {
             let step = if step.is_some() { "3" } else { "" };
             write!(out, "for{first}{test}{step}")
         }
+        _ => expression_head(out, tree),
     }
 }
 
 /// The greatest number of parts that a tree of this kind has.
 fn most_parts(tree: &Tree) -> usize {
     match &tree.node {
-        Node::Sequence(trees) | Node::Block(trees) => trees.len(),
-        Node::Call(_, trees) => trees.len().saturating_add(1),
+        Node::Sequence(trees) | Node::Block(trees) | Node::Template(_, trees) => trees.len(),
+        Node::Array(items) => items.len(),
+        Node::Call(_, _, items) => items.len().saturating_add(1),
+        Node::New(_, Some(items)) => items.len().saturating_add(1),
         Node::Var(declarations) => declarations.len(),
-        Node::Name(_) | Node::Null | Node::Bool(_) | Node::Num(_) | Node::Text(_) | Node::Empty =>
-            0,
+        Node::This | Node::Name(_) | Node::Null | Node::Bool(_) | Node::Num(_) | Node::Text(_) => 0,
+        Node::Empty => 0,
         _ => 4,
     }
 }
@@ -262,19 +455,63 @@ fn pick<'a>(at: usize, a: &'a Shared<Tree>, b: &'a Shared<Tree>) -> Option<&'a S
     }
 }
 
+fn only(at: usize, a: &Shared<Tree>) -> Option<&Shared<Tree>> {
+    if at == 0 { Some(a) } else { None }
+}
+
+/// The element of an array or of arguments that stands at a part's place.
+fn element(tree: &Tree, at: usize) -> Option<&Element> {
+    match &tree.node {
+        Node::Array(items) => items.get(at),
+        Node::Call(_, _, items) => if at == 0 { None } else { items.get(at - 1) },
+        Node::New(_, Some(items)) => if at == 0 { None } else { items.get(at - 1) },
+        _ => None,
+    }
+}
+
+/// The tree of an element.
+fn element_tree(element: &Element) -> Option<&Shared<Tree>> {
+    match element {
+        Element::Value(x) => Some(x),
+        Element::Spread(x) => Some(x),
+        Element::Hole => None,
+    }
+}
+
+/// What stands before a part, where there is one.
+fn before(tree: &Tree, at: usize) -> &'static str {
+    match element(tree, at) {
+        Some(Element::Spread(_)) => " ...",
+        Some(Element::Hole) => " _",
+        _ => if part(tree, at).is_some() { " " } else { "" },
+    }
+}
+
+/// A part of an expression.
+fn expression_part(tree: &Tree, at: usize) -> Option<&Shared<Tree>> {
+    match &tree.node {
+        Node::Sequence(trees) => trees.get(at),
+        Node::Template(_, trees) => trees.get(at),
+        Node::Assign(_, a, b, _) => pick(at, a, b),
+        Node::Logical(_, a, b) => pick(at, a, b),
+        Node::Binary(_, a, b) => pick(at, a, b),
+        Node::Index(_, a, b) => pick(at, a, b),
+        Node::Unary(_, a) => only(at, a),
+        Node::Update(_, a) => only(at, a),
+        Node::Member(_, a, _) => only(at, a),
+        Node::Cond(a, b, c) => if at == 2 { Some(c) } else { pick(at, a, b) },
+        Node::Call(_, of, _) if at == 0 => Some(of),
+        Node::New(of, _) if at == 0 => Some(of),
+        _ => element_tree(element(tree, at)?),
+    }
+}
+
 /// A part of a tree, of which some have only a few.
 fn part(tree: &Tree, at: usize) -> Option<&Shared<Tree>> {
     match &tree.node {
-        Node::Sequence(trees) | Node::Block(trees) => trees.get(at),
-        Node::Assign(_, a, b) => pick(at, a, b),
-        Node::Logical(_, a, b) => pick(at, a, b),
-        Node::Binary(_, a, b) => pick(at, a, b),
+        Node::Block(trees) => trees.get(at),
         Node::Do(a, b) | Node::While(a, b) => pick(at, a, b),
-        Node::Unary(_, a) => if at == 0 { Some(a) } else { None },
-        Node::Update(_, a) => if at == 0 { Some(a) } else { None },
-        Node::Expression(a) => if at == 0 { Some(a) } else { None },
-        Node::Call(of, trees) => if at == 0 { Some(of) } else { trees.get(at - 1) },
-        Node::Cond(a, b, c) => if at == 2 { Some(c) } else { pick(at, a, b) },
+        Node::Expression(a) | Node::Directive(a) => only(at, a),
         Node::If(a, b, c) => if at == 2 { c.as_ref() } else { pick(at, a, b) },
         Node::For(a, b, c, body) => match at {
             0 => a.as_ref(),
@@ -284,8 +521,7 @@ fn part(tree: &Tree, at: usize) -> Option<&Shared<Tree>> {
             _ => None,
         },
         Node::Var(declarations) => declarations.get(at)?.value.as_ref(),
-        Node::Name(_) | Node::Null | Node::Bool(_) | Node::Num(_) | Node::Text(_) | Node::Empty =>
-            None,
+        _ => expression_part(tree, at),
     }
 }
 
@@ -298,8 +534,8 @@ fn show(out: &mut String, tree: &Tree, depth: u32) -> Result<(), AllocError> {
     out.push_str(if many == 0 { "" } else { "(" })?;
     head(out, tree)?;
     for at in 0..many {
+        out.push_str(before(tree, at))?;
         if let Some(part) = part(tree, at) {
-            out.push_str(" ")?;
             show(out, part.get(), depth - 1)?;
         }
     }
@@ -369,6 +605,34 @@ fn reads_tokens(rt: HostRuntime) -> Result<(), Fail> {
 fn reads_statements(rt: HostRuntime) -> Result<(), Fail> {
     let wrong = first_wrong(rt.alloc(), &STATEMENTS)?;
     assert_eq!(rt; wrong, STATEMENTS.len());
+    Ok(())
+}
+
+#[test]
+fn reads_properties(rt: HostRuntime) -> Result<(), Fail> {
+    let wrong = first_wrong(rt.alloc(), &PROPERTIES)?;
+    assert_eq!(rt; wrong, PROPERTIES.len());
+    Ok(())
+}
+
+#[test]
+fn reads_elements(rt: HostRuntime) -> Result<(), Fail> {
+    let wrong = first_wrong(rt.alloc(), &ELEMENTS)?;
+    assert_eq!(rt; wrong, ELEMENTS.len());
+    Ok(())
+}
+
+#[test]
+fn reads_heads(rt: HostRuntime) -> Result<(), Fail> {
+    let wrong = first_wrong(rt.alloc(), &HEADS)?;
+    assert_eq!(rt; wrong, HEADS.len());
+    Ok(())
+}
+
+#[test]
+fn reads_templates(rt: HostRuntime) -> Result<(), Fail> {
+    let wrong = first_wrong(rt.alloc(), &TEMPLATES)?;
+    assert_eq!(rt; wrong, TEMPLATES.len());
     Ok(())
 }
 

@@ -1,5 +1,5 @@
 use Rattle.std.proofs.Common.{◌≡◌, ap, arith}
-use Rattle.sr_parse.specs.Grammar.{tree}
+use Rattle.sr_syntax.specs.Grammar.{tree}
 use Rattle.sr_parse.proofs.Turns.{deeper}
 use Rattle.sr_parse.proofs.grammar.+tree.Goals as goal
 

@@ -1,5 +1,5 @@
 use Rattle.std.proofs.Common.{◌≡◌, ◌-◌}
-use Rattle.sr_parse.specs.Grammar.{script, script_from}
+use Rattle.sr_syntax.specs.Grammar.{script, script_from}
 use Rattle.sr_parse.proofs.reading.script.Given as goal
 
 abbrev pub invariant-loop-turn : goal.invariant-loop-turn

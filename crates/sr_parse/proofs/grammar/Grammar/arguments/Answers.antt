@@ -1,6 +1,6 @@
 use Rattle.std.proofs.Common.{rules, arith}
 use Rattle.std.proofs.lemmas.Grind.{common_steps}
-use Rattle.sr_parse.specs.Grammar.{tree, arguments_from}
+use Rattle.sr_syntax.specs.Grammar.{tree, arguments_from}
 use Rattle.sr_parse.proofs.Turns.{one_more}
 use Rattle.sr_parse.proofs.grammar.Grammar.arguments.Goals as goal
 

@@ -1,5 +1,5 @@
 use Rattle.std.proofs.Common.{◌≡◌, ◌-◌}
-use Rattle.sr_parse.specs.Grammar.{tree, items, items_from}
+use Rattle.sr_syntax.specs.Grammar.{tree, items, items_from}
 use Rattle.sr_parse.proofs.grammar.Grammar.items.Given as goal
 
 abbrev pub invariant-loop-turn : goal.invariant-loop-turn
