@@ -2,22 +2,26 @@
 use Rattle.std.proofs.Common.{◌≡◌, ℕ, zero, suc, ◌+◌, ◌≤◌, max, Bool, true, false, List, [], ◌∷◌, ◌++◌, Option, None, Some, refl, sym, ap, ◌∙◌, subst, append_assoc, append-nil, arith, if◌then◌else◌}
 use Rattle.sr_ast.specs.declared.operators.AssignOp.{AssignOp}
 use Rattle.sr_ast.specs.declared.tree.Node.TheVariants as node
-use Rattle.sr_parse.specs.declared.sorts.Sort.TheVariants as k
-use Rattle.sr_parse.specs.declared.sorts.Lexeme.{Lexeme}
-use Rattle.sr_parse.specs.declared.grown.Grown.{Grown}
-use Rattle.sr_parse.specs.declared.grown.Goal.{Goal}
-use Rattle.sr_parse.specs.declared.grown.Goal.TheVariants as goal
-use Rattle.sr_parse.specs.declared.refusal.Refusal.TheVariants.{Memory, Syntax, TooDeep}
-use Rattle.sr_parse.specs.Sorts.{same_sort}
-use Rattle.sr_parse.specs.Input.{Input, Outcome, sort, sort_at, place_at}
-use Rattle.sr_parse.specs.Grammar.{assignment, is_target, from_of, tallest, assigns, assign_by, assign, cond_, chosen, otherwise, goal_by, tree}
-use Rattle.sr_grammar.specs.Derivations.{Symbol, Derives, Cond, Short, Assign, Power, Unary, end_after, whole}
+use Rattle.sr_syntax.specs.declared.sorts.Sort.TheVariants as k
+use Rattle.sr_syntax.specs.declared.sorts.Lexeme.{Lexeme}
+use Rattle.sr_syntax.specs.declared.grown.Grown.{Grown}
+use Rattle.sr_syntax.specs.declared.grown.Goal.{Goal}
+use Rattle.sr_syntax.specs.declared.grown.Goal.TheVariants as goal
+use Rattle.sr_syntax.specs.declared.refusal.Refusal.TheVariants.{Memory, Syntax, TooDeep}
+use Rattle.sr_syntax.specs.Sorts.{same_sort}
+use Rattle.sr_syntax.specs.Input.{Input, Outcome, sort, sort_at, place, place_at}
+use Rattle.sr_syntax.specs.Grammar.{assign_goal, assignment, is_target, gives_name, from_of, tallest, assigns, assign_by, assign, cond_, chosen, otherwise, goal_by, tree}
+use Rattle.sr_grammar.specs.Derivations.{Symbol, Derives, Cond, Short, Assign, Power, Unary, New, end_after, start_of, whole}
 use Rattle.sr_grammar.specs.Derivations as g
-use Rattle.sr_grammar.proofs.Steps.{inp, Fact, Fault, Any, Parses, Both, both, Either, first, second, Never, Pure, nothing, Looked, looked, Taken, taken, Eaten, ate, absent, Expected, expected, Here, here, Chosen, yes, no, ChosenFault, yes_fault, no_fault, map, given, then_any, bind, look, take, Shallow, Some_left, eaten, expecting, purely, choose_any, not_both, done, ending, end_append, sort_alike, refusal, refusal_is, deep_memory, fault_at}
+use Rattle.sr_grammar.specs.Faults.{Begins}
+use Rattle.sr_grammar.proofs.Steps.{inp, Fact, Fault, Any, Parses, Both, both, Either, first, second, Never, Pure, nothing, Looked, looked, Taken, taken, Eaten, ate, absent, Expected, expected, Here, here, Chosen, yes, no, ChosenFault, yes_fault, no_fault, map, given, then_any, bind, look, take, Shallow, Some_left, place_shallow, eaten, expecting, purely, choose_any, not_both, done, ending, end_append, sort_alike, refusal, refusal_is, deep_memory, fault_at}
 use Rattle.sr_grammar.proofs.Depths.{lift}
-use Rattle.sr_grammar.proofs.Facts.{Derived, derived, Opened, opened, Closed, closed, closing, bare, known_as, finished, end_behind, Starts, Start, start, Fill, starts_of_fill, begin_in, begin_as, begin_behind, filled, token}
+use Rattle.sr_grammar.proofs.Facts.{Derived, derived, Opened, opened, Closed, closed, closing, bare, known_as, finished, end_behind, Start, start, Fill, begins_of_fill, begin_in, begin_as, begin_behind, filled, token}
+use Rattle.sr_grammar.proofs.Starting.{place_of}
+use Rattle.sr_grammar.proofs.Followers.{DerivedNew, derived_new, OpenedNew, opened_new}
 use Rattle.sr_grammar.proofs.Lists.{Nested}
-use Rattle.sr_grammar.proofs.Sides.{unit_of, unit_shallow}
+use Rattle.sr_grammar.proofs.Targets.{a_name, some_assign}
+use Rattle.sr_grammar.proofs.Sides.{unit_of, unit_shallow, news}
 use Rattle.sr_grammar.proofs.Operands.{powers, unaries}
 use Rattle.sr_grammar.proofs.Rows.{shorts}
 
@@ -31,84 +35,66 @@ other_colon : same_sort k.End k.Colon ≡ false
 unfolding same_sort
 other_colon = refl
 
-abbrev ChosenOneFact : ℕ → Grown → Fact Grown
-ChosenOneFact d x = Both (Opened Assign d) (λ y. Both (Expected k.Colon) (λ u. Closed (Opened Assign d) (λ z. node.Cond x.tree y.tree z.tree) (λ z. from_of x) (λ z. tallest x.height y.height z.height)))
+abbrev ChosenOneFact : Bool → ℕ → Grown → Fact Grown
+ChosenOneFact has d x = Both (Opened (Assign true) d) (λ y. Both (Expected k.Colon) (λ u. Closed (Opened (Assign has) d) (λ z. node.Cond x.tree y.tree z.tree) (λ z. from_of x) (λ z. tallest x.height y.height z.height)))
 
-abbrev CondFact : ℕ → Fact Grown
-CondFact d = Both (Derived d Short) (λ x. Both (Eaten k.Question) (λ b. Chosen b (ChosenOneFact d x) (Pure x)))
+abbrev CondFact : Bool → ℕ → Fact Grown
+CondFact has d = Both (Derived d (Short has)) (λ x. Both (Eaten k.Question) (λ b. Chosen b (ChosenOneFact has d x) (Pure x)))
 
 end_of_cond : (l : ℕ) (us vs ws : List Lexeme) (t u : Lexeme) → end_after u.to ws ≡ end_after l (us ++ t ∷ (vs ++ u ∷ ws))
 end_of_cond l us vs ws t u = sym (end_append l us (t ∷ (vs ++ u ∷ ws)) ∙ end_append t.to vs (u ∷ ws))
 
-cond_fact : {d l n : ℕ} {us ts : List Lexeme} {x : Grown} → CondFact d l n us ts x → Derived d Cond l n us ts x
+cond_fact : {has : Bool} {d l n : ℕ} {us ts : List Lexeme} {x : Grown} → CondFact has d l n us ts x → Derived d (Cond has) l n us ts x
 cond_fact (both (derived h b) (both (ate t c e) (no f r))) = absurd (not_both e f)
 cond_fact (both (derived h b) (both (absent e o) (yes f r))) = absurd (not_both f e)
 cond_fact (both (derived h b) (both (absent e o) (no f (nothing is)))) = bare (known_as is (derived (g.unchosen h) b))
-cond_fact {l} (both {us = us} {x = x} (derived h b) (both (ate t c e) (yes f (both {us = vs} {x = y} (opened i p) (both {vs = ws} (expected u q) (closed z (opened j r) fits is)))))) =
+cond_fact {l = l} (both {us = us} {x = x} (derived h b) (both (ate t c e) (yes f (both {us = vs} {x = y} (opened i p) (both {vs = ws} (expected u q) (closed z (opened j r) fits is)))))) =
     finished fits (is ∙ ap (λ a. ending (node.Cond x.tree y.tree z.tree) (from_of x) a (tallest x.height y.height z.height)) (end_of_cond l us vs ws t u))
     (sym (end_of_cond l us vs ws t u) ∙ end_of_cond 0 us vs ws t u) (g.chosen h t c i u q j)
 
 -- a condition with any second and third part
-fill_cond : {d e f : ℕ} {us vs ws : List Lexeme} {x y z : Grown} → Derives d Short us x → (t : Lexeme) → t.sort ≡ k.Question → Derives e Assign vs y → (u : Lexeme) → u.sort ≡ k.Colon
-    → Derives f Assign ws z → Derives (suc (d + (e + f))) Cond (us ++ t ∷ (vs ++ u ∷ ws)) (whole (node.Cond x.tree y.tree z.tree) (from_of x) (us ++ t ∷ (vs ++ u ∷ ws)) (tallest x.height y.height z.height))
-fill_cond {d} {e} {f} h t c i u q j =
+fill_cond : {has : Bool} {d e f : ℕ} {us vs ws : List Lexeme} {x y z : Grown} → Derives d (Short has) us x → (t : Lexeme) → t.sort ≡ k.Question → Derives e (Assign true) vs y → (u : Lexeme) → u.sort ≡ k.Colon
+    → Derives f (Assign has) ws z → Derives (suc (d + (e + f))) (Cond has) (us ++ t ∷ (vs ++ u ∷ ws)) (whole (node.Cond x.tree y.tree z.tree) (from_of x) (us ++ t ∷ (vs ++ u ∷ ws)) (tallest x.height y.height z.height))
+fill_cond {d = d} {e = e} {f = f} h t c i u q j =
     g.chosen (lift d (suc (d + (e + f))) (omega arith) h) t c (lift e (d + (e + f)) (omega arith) i) u q (lift f (d + (e + f)) (omega arith) j)
 
-abbrev CondFault : ℕ → Fault
-CondFault d = Either (Start Short) (Derived d Short) (λ x. Either Never (Eaten k.Question) (λ b. ChosenFault b
-    (Either (Start Assign) (Opened Assign d) (λ y. Either Here (Expected k.Colon) (λ u. Start Assign))) Never))
+abbrev CondFault : Bool → ℕ → Fault
+CondFault has d = Either (Start (Short has)) (Derived d (Short has)) (λ x. Either Never (Eaten k.Question) (λ b. ChosenFault b
+    (Either (Start (Assign true)) (Opened (Assign true) d) (λ y. Either Here (Expected k.Colon) (λ u. Start (Assign has)))) Never))
 
--- any Assign at all
-record Some_assign : Type 0 where
-  open_at_most : ℕ
-  tokens : List Lexeme
-  made : Grown
-  derives : Derives open_at_most Assign tokens made
-
-cond_middle : {d e : ℕ} {us vs : List Lexeme} {x y : Grown} → Derives d Short us x → (t : Lexeme) → t.sort ≡ k.Question → Derives e Assign vs y → Some_assign → Fill Cond (us ++ t ∷ vs)
-cond_middle {d} {e} {us} {vs} {x} {y} h t c i s =
+-- a condition with any third part
+cond_middle : {has : Bool} {d e : ℕ} {us vs : List Lexeme} {x y : Grown} → Derives d (Short has) us x → (t : Lexeme) → t.sort ≡ k.Question → Derives e (Assign true) vs y → Fill (Cond has) (us ++ t ∷ vs)
+cond_middle {has} {d} {e} {us} {vs} {x} {y} h t c i =
     let u : Lexeme = token k.Colon in
-    let z : Grown = whole (node.Cond x.tree y.tree s.made.tree) (from_of x) (us ++ t ∷ (vs ++ u ∷ s.tokens)) (tallest x.height y.height s.made.height) in
+    let ws : List Lexeme = token k.Identifier ∷ [] in
+    let z : Grown = whole (node.Cond x.tree y.tree a_name.tree) (from_of x) (us ++ t ∷ (vs ++ u ∷ ws)) (tallest x.height y.height a_name.height) in
     record {
-      depth = suc (d + (e + s.open_at_most));
-      more = u ∷ s.tokens;
+      depth = suc (d + (e + 3));
+      more = u ∷ ws;
       made = z;
-      derives = subst (λ zs. Derives (suc (d + (e + s.open_at_most))) Cond zs z) (sym (append_assoc us (t ∷ vs) (u ∷ s.tokens))) (fill_cond h t c i u refl s.derives);
+      derives = subst (λ zs. Derives (suc (d + (e + 3))) (Cond has) zs z) (sym (append_assoc us (t ∷ vs) (u ∷ ws))) (fill_cond h t c i u refl (some_assign has));
     }
 
-cond_fault_with : {d l n : ℕ} {us ts : List Lexeme} → Some_assign → CondFault d l n us ts → Starts Cond us
-cond_fault_with a (first (start s)) = begin_as (λ e vs x h. filled e vs x (g.unchosen h)) s
-cond_fault_with a (second h (first c)) = elim c [ ]
-cond_fault_with a (second {us = us} (derived h b) (second (ate t c e) (yes_fault f (first (start s))))) = begin_behind us t (λ m vs y i. cond_middle h t c i a) s
-cond_fault_with a (second {us = us} (derived h b) (second (ate t c e) (yes_fault f (second {us = vs} (opened i p) (first here))))) =
-    starts_of_fill (subst (λ zs. Fill Cond (us ++ t ∷ zs)) (sym (append-nil vs)) (cond_middle h t c i a))
-cond_fault_with a (second {us = us} {x = x} (derived h b) (second (ate t c e) (yes_fault f (second {us = vs} {x = y} (opened i p) (second {vs = ws} (expected u q) (start s)))))) =
+behind_more : (us vs ws zs : List Lexeme) (t u : Lexeme) → (us ++ t ∷ (vs ++ u ∷ ws)) ++ zs ≡ us ++ t ∷ (vs ++ u ∷ (ws ++ zs))
+behind_more us vs ws zs t u = append_assoc us (t ∷ (vs ++ u ∷ ws)) zs ∙ ap (λ xs. us ++ t ∷ xs) (append_assoc vs (u ∷ ws) zs)
+
+cond_fault : {has : Bool} {d l n : ℕ} {us ts : List Lexeme} → CondFault has d l n us ts → Begins (Cond has) us
+cond_fault (first (start s)) = begin_as (λ e vs x h. filled e vs x (g.unchosen h)) s
+cond_fault (second h (first c)) = elim c [ ]
+cond_fault (second {us = us} (derived h b) (second (ate t c e) (yes_fault f (first (start s))))) = begin_behind us t (λ m vs y i. cond_middle h t c i) s
+cond_fault {has} (second {us = us} (derived h b) (second (ate t c e) (yes_fault f (second {us = vs} (opened i p) (first here))))) =
+    begins_of_fill (subst (λ zs. Fill (Cond has) (us ++ t ∷ zs)) (sym (append-nil vs)) (cond_middle h t c i))
+cond_fault (second {us = us} {x = x} (derived h b) (second (ate t c e) (yes_fault f (second {us = vs} {x = y} (opened i p) (second {vs = ws} (expected u q) (start s)))))) =
     begin_in (λ zs. us ++ t ∷ (vs ++ u ∷ zs)) (λ ws zs. sym (behind_more us vs ws zs t u)) (λ m zs z j. filled _ _ _ (fill_cond h t c i u q j)) ws s
-  where
-    behind_more : (us vs ws zs : List Lexeme) (t u : Lexeme) → (us ++ t ∷ (vs ++ u ∷ ws)) ++ zs ≡ us ++ t ∷ (vs ++ u ∷ (ws ++ zs))
-    behind_more us vs ws zs t u = append_assoc us (t ∷ (vs ++ u ∷ ws)) zs ∙ ap (λ xs. us ++ t ∷ xs) (append_assoc vs (u ∷ ws) zs)
-cond_fault_with a (second (derived h b) (second (ate t c e) (no_fault f r))) = elim r [ ]
-cond_fault_with a (second (derived h b) (second (absent e o) (yes_fault f r))) = absurd (not_both f e)
-cond_fault_with a (second (derived h b) (second (absent e o) (no_fault f r))) = elim r [ ]
+cond_fault (second (derived h b) (second (ate t c e) (no_fault f r))) = elim r [ ]
+cond_fault (second (derived h b) (second (absent e o) (yes_fault f r))) = absurd (not_both f e)
+cond_fault (second (derived h b) (second (absent e o) (no_fault f r))) = elim r [ ]
 
--- a name
-some_assign : Some_assign
-some_assign = record {
-  open_at_most = 3;
-  tokens = token k.Identifier ∷ [];
-  made = _;
-  derives = g.unassigned (g.unchosen (g.logical (rows_of 10 (g.operand (g.unraised (g.no_operator (g.no_step (g.uncalled (g.name {d = 1} refl)))))))));
-}
-  where
-    rows_of : {d : ℕ} {us : List Lexeme} {x : Grown} (level : ℕ) → Derives d (g.Row zero) us x → Derives d (g.Row level) us x
-    rows_of zero h = h
-    rows_of (suc level) h = g.tighter (rows_of level h)
-
-conds : (d : ℕ) → Nested d → Parses (λ e. cond_ (tree e)) d Any (Derived d Cond) (Start Cond)
+conds : (has : Bool) (d : ℕ) → Nested d → Parses (λ e. cond_ (tree e) has) d Any (Derived d (Cond has)) (Start (Cond has))
 unfolding cond_ chosen otherwise
-conds d nest = map (λ l n us ts x r. cond_fact r) (λ l n us ts r. start (cond_fault_with some_assign r))
-    (then_any (shorts d nest) (λ x. then_any (eaten k.Question other_question) (λ b. choose_any b
-    (then_any nest.assign (λ y. then_any (expecting k.Colon other_colon) (λ u. closing nest.assign (λ z. node.Cond x.tree y.tree z.tree) (λ z. from_of x) (λ z. tallest x.height y.height z.height))))
+conds has d nest = map (λ l n us ts x r. cond_fact r) (λ l n us ts r. start (cond_fault r))
+    (then_any (shorts has d nest) (λ x. then_any (eaten k.Question other_question) (λ b. choose_any b
+    (then_any (nest.assign true) (λ y. then_any (expecting k.Colon other_colon) (λ u. closing (nest.assign has) (λ z. node.Cond x.tree y.tree z.tree) (λ z. from_of x) (λ z. tallest x.height y.height z.height))))
     (purely x))))
 
 -- ---- assignments
@@ -141,37 +127,53 @@ abbrev Seen : Grown → Option AssignOp → List Lexeme → Type 0
 Seen x None ts = Unit {0}
 Seen x (Some op) ts = Assigns x op ts
 
-abbrev AssignBy : ℕ → Grown → Option AssignOp → Fact Grown
-AssignBy d x None = Pure x
-AssignBy d x (Some op) = Both (Taken unit_of) (λ u. Closed (Opened Assign d) (λ y. node.Assign op x.tree y.tree) (λ y. from_of x) (λ y. max x.height y.height))
+abbrev AssignBy : Bool → ℕ → ℕ → Grown → Option AssignOp → Fact Grown
+AssignBy has d from x None = Pure x
+AssignBy has d from x (Some op) =
+    Both (Taken unit_of) (λ u. Closed (Opened (Assign has) d) (λ y. node.Assign op x.tree y.tree (gives_name from x)) (λ y. from_of x) (λ y. max x.height y.height))
 
-abbrev AssignByFault : Option AssignOp → Fault
-AssignByFault None = Never
-AssignByFault (Some op) = Either Never (Taken unit_of) (λ u. Start Assign)
+abbrev AssignByFault : Bool → Option AssignOp → Fault
+AssignByFault has None = Never
+AssignByFault has (Some op) = Either Never (Taken unit_of) (λ u. Start (Assign has))
 
-assign_bys : (d : ℕ) → Nested d → (x : Grown) (o : Option AssignOp) → Parses (λ e. assign_by (tree e) x o) d (Seen x o) (AssignBy d x o) (AssignByFault o)
-assign_bys d nest x None = given (λ ts m. tt) (purely x)
-assign_bys d nest x (Some op) = then_any (given (assign_needs x op) (take unit_of unit_shallow)) (λ u. closing nest.assign (λ y. node.Assign op x.tree y.tree) (λ y. from_of x) (λ y. max x.height y.height))
+assign_bys : (has : Bool) (d : ℕ) → Nested d → (from : ℕ) (x : Grown) (o : Option AssignOp) → Parses (λ e. assign_by (tree e) has from x o) d (Seen x o) (AssignBy has d from x o) (AssignByFault has o)
+assign_bys has d nest from x None = given (λ ts m. tt) (purely x)
+assign_bys has d nest from x (Some op) = then_any (given (assign_needs x op) (take unit_of unit_shallow))
+    (λ u. closing (nest.assign has) (λ y. node.Assign op x.tree y.tree (gives_name from x)) (λ y. from_of x) (λ y. max x.height y.height))
 
-assign_fact : {d l n : ℕ} {us ts : List Lexeme} {x : Grown} → Both (Derived d Cond) (λ x. Both (Looked (look_assigns x)) (λ o. AssignBy d x o)) l n us ts x → Derived d Assign l n us ts x
-assign_fact (both (derived h b) (both {x = None} (looked e) (nothing is))) = bare (known_as is (derived (g.unassigned h) b))
-assign_fact {l = l} {n = n} (both {us = us} {x = x} (derived h b) (both {ts = ts} {x = Some op} (looked e) (both {vs = vs} (taken t f) (closed y (opened i p) fits is)))) =
+-- the place where it begins was seen before
+abbrev AssignFact : Bool → ℕ → Fact Grown
+AssignFact has d = Both (Looked place) (λ from. Both (Derived d (Cond has)) (λ x. Both (Looked (look_assigns x)) (λ o. AssignBy has d from x o)))
+
+abbrev AssignFault : Bool → ℕ → Fault
+AssignFault has d = Either Never (Looked place) (λ from. Either (Start (Cond has)) (Derived d (Cond has)) (λ x. Either Never (Looked (look_assigns x)) (λ o. AssignByFault has o)))
+
+assign_fact : {has : Bool} {d l n : ℕ} {us ts : List Lexeme} {x : Grown} → AssignFact has d l n us ts x → Derived d (Assign has) l n us ts x
+unfolding place
+assign_fact (both (looked at) (both (derived h b) (both {x = None} (looked e) (nothing is)))) = bare (known_as is (derived (g.unassigned h) b))
+assign_fact {l = l} {n = n} (both {x = from} (looked at) (both {us = us} {x = x} (derived h b) (both {ts = ts} {x = Some op} (looked e) (both {vs = vs} (taken t f) (closed y (opened i p) fits is))))) =
     let s = assigns_are x op (t ∷ (vs ++ ts)) (end_after l us) n e in
-    finished fits (is ∙ ap (λ a. ending (node.Assign op x.tree y.tree) (from_of x) a (max x.height y.height)) (sym (end_append l us (t ∷ vs)))) (end_behind l 0 us vs t) (g.assigned h s.target t s.sort i)
+    let begun : from ≡ start_of us = at ∙ ap (λ zs. place_at n zs) (append_assoc us (t ∷ vs) ts) ∙ place_of h n (t ∷ (vs ++ ts)) in
+    finished fits
+    (is ∙ ap (λ a. ending (node.Assign op x.tree y.tree (gives_name a x)) (from_of x) (end_after t.to vs) (max x.height y.height)) begun
+    ∙ ap (λ a. ending (node.Assign op x.tree y.tree (gives_name (start_of us) x)) (from_of x) a (max x.height y.height)) (sym (end_append l us (t ∷ vs))))
+    (end_behind l 0 us vs t) (g.assigned h s.target t s.sort i)
 
-assign_fault : {d l n : ℕ} {us ts : List Lexeme} → Either (Start Cond) (Derived d Cond) (λ x. Either Never (Looked (look_assigns x)) (λ o. AssignByFault o)) l n us ts → Start Assign l n us ts
-assign_fault (first (start s)) = start (begin_as (λ e vs x h. filled e vs x (g.unassigned h)) s)
-assign_fault (second h (first c)) = elim c [ ]
-assign_fault (second h (second {x = None} (looked e) c)) = elim c [ ]
-assign_fault (second h (second {x = Some op} (looked e) (first c))) = elim c [ ]
-assign_fault {d} {l} {n} (second {us = us} {x = x} (derived h b) (second {ts = ts} {x = Some op} (looked e) (second {vs = vs} (taken t f) (start r)))) =
+assign_fault : {has : Bool} {d l n : ℕ} {us ts : List Lexeme} → AssignFault has d l n us ts → Start (Assign has) l n us ts
+assign_fault (first c) = elim c [ ]
+assign_fault (second (looked at) (first (start s))) = start (begin_as (λ e vs x h. filled e vs x (g.unassigned h)) s)
+assign_fault (second (looked at) (second h (first c))) = elim c [ ]
+assign_fault (second (looked at) (second h (second {x = None} (looked e) c))) = elim c [ ]
+assign_fault (second (looked at) (second h (second {x = Some op} (looked e) (first c)))) = elim c [ ]
+assign_fault {d = d} {l = l} {n = n} (second (looked at) (second {us = us} {x = x} (derived h b) (second {ts = ts} {x = Some op} (looked e) (second {vs = vs} (taken t f) (start r))))) =
     let s = assigns_are x op (t ∷ (vs ++ ts)) (end_after l us) n e in
     start (begin_behind us t (λ m zs y i. filled (suc (d + m)) (us ++ t ∷ zs) _ (g.assigned (lift d (suc (d + m)) (omega arith) h) s.target t s.sort (lift m (d + m) (omega arith) i))) r)
 
-pub assigneds : (d : ℕ) → Nested d → Parses (λ e. assign (tree e)) d Any (Derived d Assign) (Start Assign)
+pub assigneds : (has : Bool) (d : ℕ) → Nested d → Parses (λ e. assign (tree e) has) d Any (Derived d (Assign has)) (Start (Assign has))
 unfolding assign
-assigneds d nest = map (λ l n us ts x r. assign_fact r) (λ l n us ts r. assign_fault r)
-    (then_any (conds d nest) (λ x. bind (λ l n us ts o m r. seen x o r) (look (look_assigns x) (assigns_shallow x)) (λ o. assign_bys d nest x o)))
+assigneds has d nest = map (λ l n us ts x r. assign_fact r) (λ l n us ts r. assign_fault r)
+    (then_any (look place place_shallow) (λ from. then_any (conds has d nest)
+    (λ x. bind (λ l n us ts o m r. seen x o r) (look (look_assigns x) (assigns_shallow x)) (λ o. assign_bys has d nest from x o))))
   where
     seen : {l n : ℕ} {us ts : List Lexeme} (x : Grown) (o : Option AssignOp) → Looked (look_assigns x) l n us ts o → Seen x o ts
     seen x None r = tt
@@ -184,15 +186,16 @@ unfolding tree
 opened_again o d i r again zero more = absurd (omega arith)
 opened_again o d i r again (suc e) more = again e (omega arith)
 
-opens : (s : Symbol) (o : Goal) (d : ℕ) → Parses (λ e. goal_by (tree e) o) d Any (Derived d s) (Start s) → Parses (λ e. tree e o) (suc d) Any (Opened s (suc d)) (Start s)
+opens : {R S : Fact Grown} {B : Fault} (o : Goal) (d : ℕ) → ((l n : ℕ) (us ts : List Lexeme) (x : Grown) → R l n us ts x → S l n us ts x)
+    → Parses (λ e. goal_by (tree e) o) d Any R B → Parses (λ e. tree e o) (suc d) Any S B
 unfolding tree
-opens s o d p = record {
+opens o d f p = record {
   reads = λ l n all x j q h. let r = p.reads l n all x j q h in record {
     us = r.us;
     ts = r.ts;
     split = r.split;
     left = r.left;
-    fact = elim r.fact [ derived h b ↦ opened h b ];
+    fact = f l n r.us r.ts x r.fact;
     again = λ e rs more same. opened_again o d (inp (r.us ++ rs) l n) (done x (inp rs (end_after l r.us) n)) (λ e more. r.again e rs more same) e more;
   };
   fails = λ l n all place q h. let r = p.fails l n all place q h in record {
@@ -206,17 +209,28 @@ opens s o d p = record {
   safe = p.safe;
 }
 
-shut : (s : Symbol) (o : Goal) → Parses (λ e. tree e o) zero Any (Opened s zero) (Start s)
+shut : {S : Fact Grown} {B : Fault} (o : Goal) → Parses (λ e. tree e o) zero Any S B
 unfolding tree
-shut s o = record { reads = λ l n all x j q h. cc; fails = λ l n all place q h. absurd (deep h); safe = λ l n all q h. deep_memory (refusal_is {A = Grown} TooDeep Memory h) }
+shut o = record { reads = λ l n all x j q h. cc; fails = λ l n all place q h. absurd (deep h); safe = λ l n all q h. deep_memory (refusal_is {A = Grown} TooDeep Memory h) }
   where
     deep : {place : ℕ} → refusal {A = Grown} TooDeep ≡ refusal (Syntax place) → ⊥
     deep h = cc
 
+assigned_goals : (has : Bool) (d : ℕ) → Nested d → Parses (λ e. goal_by (tree e) (assign_goal has)) d Any (Derived d (Assign has)) (Start (Assign has))
+assigned_goals true d nest = assigneds true d nest
+assigned_goals false d nest = assigneds false d nest
+
+now_open : {s : Symbol} {d l n : ℕ} {us ts : List Lexeme} {x : Grown} → Derived d s l n us ts x → Opened s (suc d) l n us ts x
+now_open (derived h b) = opened h b
+
+now_new : {d l n : ℕ} {us ts : List Lexeme} {x : Grown} → DerivedNew d l n us ts x → OpenedNew (suc d) l n us ts x
+now_new (derived_new h b behind) = opened_new h b behind
+
 pub nests : (d : ℕ) → Nested d
-nests zero = record { assign = shut Assign goal.Assign; power = shut Power goal.Power; unary = shut Unary goal.Unary }
+nests zero = record { assign = λ has. shut (assign_goal has); power = shut goal.Power; unary = shut goal.Unary; new = shut goal.New }
 nests (suc d) = record {
-  assign = opens Assign goal.Assign d (assigneds d (nests d));
-  power = opens Power goal.Power d (powers d (nests d));
-  unary = opens Unary goal.Unary d (unaries d (nests d));
+  assign = λ has. opens (assign_goal has) d (λ l n us ts x r. now_open r) (assigned_goals has d (nests d));
+  power = opens goal.Power d (λ l n us ts x r. now_open r) (powers d (nests d));
+  unary = opens goal.Unary d (λ l n us ts x r. now_open r) (unaries d (nests d));
+  new = opens goal.New d (λ l n us ts x r. now_new r) (news d (nests d));
 }

@@ -1,45 +1,51 @@
 -- What derives is read: for each symbol, before what cannot continue it.
-use Rattle.std.proofs.Common.{◌≡◌, ℕ, zero, suc, ◌+◌, ◌≤◌, ◌<◌, max, Bool, true, false, List, [], ◌∷◌, ◌++◌, length, Option, None, Some, Ok, refl, sym, ap, ◌∙◌, subst, append_assoc, arith, ◌⊎◌, if◌then◌else◌}
+use Rattle.std.proofs.Common.{◌≡◌, ℕ, zero, suc, ◌+◌, ◌≤◌, ◌<◌, max, Bool, true, false, List, [], ◌∷◌, ◌++◌, Option, None, Some, Ok, refl, sym, ap, ◌∙◌, subst, append_assoc, arith, ◌⊎◌, if◌then◌else◌}
 use Rattle.sr_ast.specs.declared.operators.UnaryOp.{UnaryOp}
 use Rattle.sr_ast.specs.declared.operators.UpdateOp.{UpdateOp}
 use Rattle.sr_ast.specs.declared.tree.Node.{Node}
 use Rattle.sr_ast.specs.declared.tree.Node.TheVariants as node
-use Rattle.sr_parse.specs.declared.sorts.Sort.TheVariants as k
-use Rattle.sr_parse.specs.declared.sorts.Sort.{Sort}
-use Rattle.sr_parse.specs.declared.sorts.Lexeme.{Lexeme}
-use Rattle.sr_parse.specs.declared.grown.Grown.{Grown}
-use Rattle.sr_parse.specs.declared.grown.Grove.{Grove}
-use Rattle.sr_parse.specs.declared.grown.Goal.TheVariants as goal
-use Rattle.sr_parse.specs.Sorts.{same_sort}
-use Rattle.sr_parse.specs.Input.{Outcome, Parser, ◌>>=◌, and_then, pure, expect, sort, sort_at, line_at, line_before, place, left, next, complete, refuse, text, number, text_of, number_of}
-use Rattle.sr_parse.specs.Grammar.{prefix, is_prefix, is_prefix_of, update_before, update_after, bit_or_row, coalesce_row, joined_node, from_of, is_target, steps, joined, row_from, expression, parenthesized, primary_by, primary, arguments, calls_from, calls, left_side, stepped, step_by, step_after, update_by, update, unary_by, unary_, raised, power, binary_, short_circuit, cond_, assign, tree}
-use Rattle.sr_grammar.specs.Derivations.{Symbol, Derives, Expression, Assign, Cond, Short, Coalesce, CoalesceHead, Row, Power, Unary, Update, Left, Primary, end_after, whole, joining}
+use Rattle.sr_syntax.specs.declared.sorts.Sort.TheVariants as k
+use Rattle.sr_syntax.specs.declared.sorts.Sort.{Sort}
+use Rattle.sr_syntax.specs.declared.sorts.Lexeme.{Lexeme}
+use Rattle.sr_syntax.specs.declared.grown.Grown.{Grown}
+use Rattle.sr_syntax.specs.declared.grown.Goal.TheVariants as goal
+use Rattle.sr_syntax.specs.Sorts.{same_sort}
+use Rattle.sr_syntax.specs.Input.{Outcome, Parser, ◌>>=◌, and_then, pure, expect, sort, sort_at, line_at, line_before, place, next, complete, refuse, text, number, text_of, number_of}
+use Rattle.sr_syntax.specs.Grammar.{prefix, is_prefix, is_prefix_of, update_before, update_after, bit_or_row, coalesce_row, joined_node, from_of, is_target, is_bare_new, steps, joined, row_from, expression, parenthesized, primary_by, primary, parts_from, left_side, member_parts_from, constructor, new_, stepped, step_by, step_after, update_by, update, unary_by, unary_, raised, power, binary_, short_circuit, cond_, assign, tree}
+use Rattle.sr_grammar.specs.Derivations.{Symbol, Derives, Expression, Assign, Cond, Short, Coalesce, CoalesceHead, Row, Power, Unary, Update, Left, Chain, New, Constructor, Member, Primary, end_after, whole, joining}
 use Rattle.sr_grammar.specs.Continuing.{looseness, Ends}
-use Rattle.sr_grammar.proofs.Steps.{inp, done, ending, eat_is, expect_is, end_append}
+use Rattle.sr_grammar.proofs.Steps.{inp, done, ending, eat_is, expect_is, end_append, not_both}
 use Rattle.sr_grammar.proofs.Gets.{Gets, gets_is, gets_to, gets_then, gets_trans, gets_whole, not_sort, no_update}
 use Rattle.sr_grammar.proofs.Heads.{left_head, update_head}
-use Rattle.sr_grammar.proofs.Completing.{Reads, Stands, stands_then, tail_fits, is_sort, looser, calls_end, call_goes}
+use Rattle.sr_grammar.proofs.Completing.{Reads, Stands, is_sort, looser, loose_sort}
 
 -- before what a condition does not continue, a target before an operator of an assignment too
-abbrev pub EndsCond : Grown → List Lexeme → Type 0
-EndsCond x r = Ends 15 r ⊎ ((is_target x ≡ true) × Ends 14 r)
+abbrev pub EndsCond : Bool → Grown → List Lexeme → Type 0
+EndsCond b x r = Ends b 15 r ⊎ ((is_target x ≡ true) × Ends b 14 r)
 
+-- What is no target is read where `?.` may stand in it; a New without Arguments before what is no part.
 abbrev pub Claim : ℕ → Symbol → List Lexeme → Grown → Type 0
-Claim d Expression us x = (r : List Lexeme) (l n : ℕ) → Ends 16 r → Reads (expression (tree d)) us x r l n
-Claim d Assign us x = (r : List Lexeme) (l n : ℕ) → Ends 15 r → Reads (assign (tree d)) us x r l n
-Claim d Cond us x = (r : List Lexeme) (l n : ℕ) → EndsCond x r → Reads (cond_ (tree d)) us x r l n
-Claim d Short us x = (r : List Lexeme) (l n : ℕ) → Ends 13 r → Reads (short_circuit (tree d)) us x r l n
-Claim d Coalesce us x = (r : List Lexeme) (l n : ℕ) → Ends 10 r
-    → Stands (short_circuit (tree d) (inp (us ++ r) l n)) x.height (λ m. row_from (binary_ (tree d) bit_or_row) coalesce_row m x (inp r (end_after l us) n)) r
-Claim d CoalesceHead us x = (r : List Lexeme) (l n : ℕ) → sort_at r ≡ k.Coalesce
-    → Stands (short_circuit (tree d) (inp (us ++ r) l n)) x.height (λ m. row_from (binary_ (tree d) bit_or_row) coalesce_row m x (inp r (end_after l us) n)) r
-Claim d (Row zero) us x = (r : List Lexeme) (l n : ℕ) → Ends 2 r → Reads (binary_ (tree d) zero) us x r l n
-Claim d (Row (suc level)) us x = (r : List Lexeme) (l n : ℕ) → Ends (2 + level) r
-    → Stands (binary_ (tree d) (suc level) (inp (us ++ r) l n)) x.height (λ m. row_from (binary_ (tree d) level) (suc level) m x (inp r (end_after l us) n)) r
-Claim d Power us x = (r : List Lexeme) (l n : ℕ) → Ends 2 r → Reads (power (tree d)) us x r l n
-Claim d Unary us x = (r : List Lexeme) (l n : ℕ) → Ends 1 r → Reads (unary_ (tree d)) us x r l n
-Claim d Update us x = (r : List Lexeme) (l n : ℕ) → Ends 1 r → Reads (update (tree d)) us x r l n
-Claim d Left us x = (r : List Lexeme) (l n : ℕ) → Stands (left_side (tree d) (inp (us ++ r) l n)) x.height (λ m. calls_from (tree d) m x (inp r (end_after l us) n)) r
+Claim d (Expression b) us x = (r : List Lexeme) (l n : ℕ) → Ends b 16 r → Reads (expression (tree d) b) us x r l n
+Claim d (Assign b) us x = (r : List Lexeme) (l n : ℕ) → Ends b 15 r → Reads (assign (tree d) b) us x r l n
+Claim d (Cond b) us x = (r : List Lexeme) (l n : ℕ) → EndsCond b x r → Reads (cond_ (tree d) b) us x r l n
+Claim d (Short b) us x = (r : List Lexeme) (l n : ℕ) → Ends b 13 r → Reads (short_circuit (tree d) b) us x r l n
+Claim d (Coalesce b) us x = (r : List Lexeme) (l n : ℕ) → Ends b 10 r
+    → Stands (short_circuit (tree d) b (inp (us ++ r) l n)) x.height (λ m. row_from b (binary_ (tree d) b bit_or_row) coalesce_row m x (inp r (end_after l us) n)) r
+Claim d (CoalesceHead b) us x = (r : List Lexeme) (l n : ℕ) → sort_at r ≡ k.Coalesce
+    → Stands (short_circuit (tree d) b (inp (us ++ r) l n)) x.height (λ m. row_from b (binary_ (tree d) b bit_or_row) coalesce_row m x (inp r (end_after l us) n)) r
+Claim d (Row b zero) us x = (r : List Lexeme) (l n : ℕ) → Ends b 2 r → Reads (binary_ (tree d) b zero) us x r l n
+Claim d (Row b (suc level)) us x = (r : List Lexeme) (l n : ℕ) → Ends b (2 + level) r
+    → Stands (binary_ (tree d) b (suc level) (inp (us ++ r) l n)) x.height (λ m. row_from b (binary_ (tree d) b level) (suc level) m x (inp r (end_after l us) n)) r
+Claim d Power us x = (r : List Lexeme) (l n : ℕ) → Ends false 2 r → Reads (power (tree d)) us x r l n
+Claim d Unary us x = (r : List Lexeme) (l n : ℕ) → Ends false 1 r → Reads (unary_ (tree d)) us x r l n
+Claim d Update us x = (r : List Lexeme) (l n : ℕ) → Ends false 1 r → Reads (update (tree d)) us x r l n
+Claim d Left us x = (o : Bool) → (is_target x ≡ false → o ≡ true) → (r : List Lexeme) (l n : ℕ) → Ends false 0 r → Reads (left_side (tree d) o) us x r l n
+Claim d (Chain c) us x = (o : Bool) → (c ≡ true → o ≡ true) → (r : List Lexeme) (l n : ℕ)
+    → Stands (left_side (tree d) o (inp (us ++ r) l n)) x.height (λ m. parts_from (tree d) o m c x (inp r (end_after l us) n)) r
+Claim d New us x = (r : List Lexeme) (l n : ℕ) → (is_bare_new x ≡ true → Ends false 0 r) → Reads (new_ (tree d)) us x r l n
+Claim d Constructor us x = (r : List Lexeme) (l n : ℕ) → Ends false 0 r → Reads (constructor (tree d)) us x r l n
+Claim d Member us x = (r : List Lexeme) (l n : ℕ)
+    → Stands (constructor (tree d) (inp (us ++ r) l n)) x.height (λ m. member_parts_from (tree d) m x (inp r (end_after l us) n)) r
 Claim d Primary us x = (r : List Lexeme) (l n : ℕ) → Reads (primary (tree d)) us x r l n
 
 -- ---- places
@@ -55,7 +61,7 @@ end_at l us vs t = sym (end_append l us (t ∷ vs))
 
 -- ---- primaries
 
-primary_is : (d : ℕ) (t : Lexeme) (r : List Lexeme) (l n : ℕ) (s : Sort) → t.sort ≡ s → primary (tree d) (inp (t ∷ r) l n) ≡ primary_by (tree d) t.from s (inp (t ∷ r) l n)
+pub primary_is : (d : ℕ) (t : Lexeme) (r : List Lexeme) (l n : ℕ) (s : Sort) → t.sort ≡ s → primary (tree d) (inp (t ∷ r) l n) ≡ primary_by (tree d) t.from s (inp (t ∷ r) l n)
 unfolding primary sort place
 primary_is d t r l n s c = ap (λ a. primary_by (tree d) t.from a (inp (t ∷ r) l n)) c
 
@@ -66,6 +72,10 @@ module _ (d : ℕ) (t : Lexeme) (r : List Lexeme) (l n : ℕ) where
   pub name_reads : t.sort ≡ k.Identifier → Reads (primary (tree d)) (t ∷ []) (whole (node.Name (text_of t.content)) t.from (t ∷ []) 0) r l n
   unfolding text next
   name_reads c = leaf_reads (node.Name (text_of t.content)) (primary_is d t r l n k.Identifier c)
+
+  pub this_reads : t.sort ≡ k.This → Reads (primary (tree d)) (t ∷ []) (whole node.This t.from (t ∷ []) 0) r l n
+  unfolding next
+  this_reads c = leaf_reads node.This (primary_is d t r l n k.This c)
 
   pub null_reads : t.sort ≡ k.Null → Reads (primary (tree d)) (t ∷ []) (whole node.Null t.from (t ∷ []) 0) r l n
   unfolding next
@@ -87,49 +97,20 @@ module _ (d : ℕ) (t : Lexeme) (r : List Lexeme) (l n : ℕ) where
   unfolding text next
   text_reads c = leaf_reads (node.Text (text_of t.content)) (primary_is d t r l n k.Text c)
 
-right_self : same_sort k.RightParenthesis k.RightParenthesis ≡ true
+pub right_self : same_sort k.RightParenthesis k.RightParenthesis ≡ true
 unfolding same_sort
 right_self = refl
 
-pub closes : (u : Lexeme) → u.sort ≡ k.RightParenthesis → (bound : ℕ) → bound < 17 → (r : List Lexeme) → Ends bound (u ∷ r)
-closes u c bound low r = omega (arith, low, ap (λ s. looseness u.line_before s) c)
-
-pub parenthesized_reads : (d : ℕ) (t u : Lexeme) (us : List Lexeme) (x : Grown) → t.sort ≡ k.LeftParenthesis → Claim d Expression us x → u.sort ≡ k.RightParenthesis → Claim d Primary (t ∷ (us ++ u ∷ [])) x
+pub parenthesized_reads : (d : ℕ) (t u : Lexeme) (us : List Lexeme) (x : Grown) → t.sort ≡ k.LeftParenthesis → Claim d (Expression true) us x → u.sort ≡ k.RightParenthesis → Claim d Primary (t ∷ (us ++ u ∷ [])) x
 unfolding parenthesized next
 parenthesized_reads d t u us x c h e r l n =
-    let inner = h (u ∷ r) t.to n (closes u e 16 (omega arith) r) in
+    let inner = h (u ∷ r) t.to n (loose_sort true u k.RightParenthesis 16 e (λ line. omega arith) r) in
     let f : Grown → Parser Grown = λ x. expect k.RightParenthesis >>= (λ v. pure x) in
     let after_ : f x (inp (u ∷ r) (end_after t.to us) n) ≡ done x (inp r u.to n) =
     ap (λ o. and_then o (λ v. pure x)) (expect_is k.RightParenthesis (u ∷ r) (end_after t.to us) n true (is_sort k.RightParenthesis u.sort e right_self)) in
     gets_is (primary_by (tree d) t.from k.LeftParenthesis (inp (t ∷ ((us ++ u ∷ []) ++ r)) l n)) (primary_is d t ((us ++ u ∷ []) ++ r) l n k.LeftParenthesis c)
-    (subst (λ zs. Gets (and_then (expression (tree d) (inp zs t.to n)) f) x.height (done x (inp r (end_after t.to (us ++ u ∷ [])) n))) (sym (append_assoc us (u ∷ []) r))
+    (subst (λ zs. Gets (and_then (expression (tree d) true (inp zs t.to n)) f) x.height (done x (inp r (end_after t.to (us ++ u ∷ [])) n))) (sym (append_assoc us (u ∷ []) r))
     (gets_to (gets_then inner f) (after_ ∙ ap (λ m. done x (inp r m n)) (end_at t.to us [] u))))
-
--- ---- calls
-
-left_other : same_sort k.End k.LeftParenthesis ≡ false
-unfolding same_sort
-left_other = refl
-
-pub uncalled_reads : (d : ℕ) (us : List Lexeme) (x : Grown) → Claim d Primary us x → Claim d Left us x
-unfolding left_side calls left
-uncalled_reads d us x h r l n = record { turns = length r; enough = omega arith; gets = gets_then (h r l n) (calls (tree d)) }
-
-pub called_reads : (d : ℕ) (us vs : List Lexeme) (t : Lexeme) (x : Grown) (xs : Grove) → Claim d Left us x → t.sort ≡ k.LeftParenthesis
-    → ((r : List Lexeme) (l n : ℕ) → Gets (arguments (tree d) (inp (vs ++ r) l n)) xs.tall (Ok (xs, inp r (end_after l vs) n)))
-    → Claim d Left (us ++ t ∷ vs) (whole (node.Call x.tree xs.trees) (from_of x) (us ++ t ∷ vs) (max x.height xs.tall))
-called_reads d us vs t x xs h c a r l n =
-    subst (λ zs. Stands (left_side (tree d) (inp zs l n)) (max x.height xs.tall + 1) (λ m. calls_from (tree d) m (whole (node.Call x.tree xs.trees) (from_of x) (us ++ t ∷ vs) (max x.height xs.tall)) (inp r (end_after l (us ++ t ∷ vs)) n)) r)
-    (sym (append_assoc us (t ∷ vs) r))
-    (stands_move (λ a b m. calls_from (tree d) m (ending (node.Call x.tree xs.trees) (from_of x) a (max x.height xs.tall)) (inp r b n)) (end_after t.to vs) (end_after 0 (us ++ t ∷ vs)) (end_after l (us ++ t ∷ vs))
-    (end_at 0 us vs t) (end_at l us vs t)
-    (stands_then (max x.height xs.tall + 1) (omega arith) (h (t ∷ (vs ++ r)) l n) (λ m far. call_goes d m x xs t (vs ++ r) r (end_after l us) n (end_after t.to vs) far c (tail_fits vs r) (a r t.to n))))
-
--- a Left before what does not call it
-left_whole : (d : ℕ) (us : List Lexeme) (x : Grown) → Claim d Left us x → (r : List Lexeme) (l n : ℕ) → Ends 0 r → Reads (left_side (tree d)) us x r l n
-left_whole d us x h r l n e =
-    let s = h r l n in
-    gets_to s.gets (calls_end d s.turns x r (end_after l us) n (not_sort k.LeftParenthesis 0 left_other (λ line. omega arith) r e))
 
 -- ---- `++` and `--`
 
@@ -143,7 +124,7 @@ unfolding stepped next place
 before_reads d us t x op c h is r l n e =
     let f : Grown → Parser Grown = λ of. if is_target of then complete (node.Update op of.tree) t.from of.height else refuse in
     gets_is (stepped (tree d) t.from op (inp (us ++ r) t.to n)) (update_is d (t ∷ (us ++ r)) l n (Some op) c)
-    (gets_trans x.height (x.height + 1) (omega arith) (gets_then (left_whole d us x h r t.to n (looser 0 1 (omega arith) r e)) f)
+    (gets_trans x.height (x.height + 1) (omega arith) (gets_then (h false (λ no. absurd (not_both is no)) r t.to n (looser false 0 1 (omega arith) r e)) f)
     (gets_is (complete (node.Update op x.tree) t.from x.height (inp r (end_after t.to us) n))
     (ap (λ b. (if b then complete (node.Update op x.tree) t.from x.height else refuse) (inp r (end_after t.to us) n)) is)
     (gets_whole (node.Update op x.tree) t.from x.height r (end_after t.to us) n)))
@@ -153,19 +134,19 @@ steps_is : (x : Grown) (r : List Lexeme) (l n : ℕ) (op : UpdateOp) → is_targ
 unfolding steps line_before sort
 steps_is x r l n op is line c = rw is (rw line c)
 
-steps_none : (x : Grown) (r : List Lexeme) (l n bound : ℕ) → 1 ≤ bound → Ends bound r → steps x (inp r l n) ≡ None
+steps_none : (x : Grown) (r : List Lexeme) (l n bound : ℕ) → 1 ≤ bound → Ends false bound r → steps x (inp r l n) ≡ None
 unfolding steps line_before sort
 steps_none x r l n bound low e = go (is_target x) refl
   where
     go : (b : Bool) → is_target x ≡ b → steps x (inp r l n) ≡ None
-    go true is = rw is (no_update bound low r e)
+    go true is = rw is (no_update false bound low r e)
     go false is = rw is refl
 
 -- an operator behind its operand continues no Left
-step_ends : (t : Lexeme) (op : UpdateOp) → update_after t.sort ≡ Some op → (r : List Lexeme) → Ends 0 (t ∷ r)
+step_ends : (t : Lexeme) (op : UpdateOp) → update_after t.sort ≡ Some op → (r : List Lexeme) → Ends false 0 (t ∷ r)
 step_ends t op c r = go t.sort t.line_before c
   where
-    go : (s : Sort) (line : Bool) → update_after s ≡ Some op → 0 < looseness line s
+    go : (s : Sort) (line : Bool) → update_after s ≡ Some op → 0 < looseness false line s
     go k.Increment true h = omega arith
     go k.Increment false h = omega arith
     go k.Decrement true h = omega arith
@@ -176,7 +157,7 @@ pub after_reads : (d : ℕ) (us : List Lexeme) (t : Lexeme) (x : Grown) (op : Up
     → Claim d Update (us ++ t ∷ []) (whole (node.Update op x.tree) (from_of x) (us ++ t ∷ []) x.height)
 unfolding step_after next
 after_reads d us t x op derives h is c line r l n e =
-    let of = left_whole d us x h (t ∷ r) l n (step_ends t op c r) in
+    let of = h true (λ no. refl) (t ∷ r) l n (step_ends t op c r) in
     let f : Grown → Parser Grown = λ of. (λ i. Ok (steps of i, i)) >>= (λ op. step_by (tree d) of op) in
     let made : Gets (f x (inp (t ∷ r) (end_after l us) n)) (x.height + 1) (done (ending (node.Update op x.tree) (from_of x) t.to x.height) (inp r t.to n)) =
     gets_is (complete (node.Update op x.tree) (from_of x) x.height (inp r t.to n)) (ap (λ o. step_by (tree d) x o (inp (t ∷ r) (end_after l us) n)) (steps_is x (t ∷ r) (end_after l us) n op is line c))
@@ -191,7 +172,7 @@ unfolding step_after
 no_step_reads d us x derives h r l n e =
     let f : Grown → Parser Grown = λ of. (λ i. Ok (steps of i, i)) >>= (λ op. step_by (tree d) of op) in
     gets_is (step_after (tree d) (inp (us ++ r) l n)) (update_is d (us ++ r) l n None (left_head derives r).update)
-    (gets_to (gets_then (left_whole d us x h r l n (looser 0 1 (omega arith) r e)) f)
+    (gets_to (gets_then (h true (λ no. refl) r l n (looser false 0 1 (omega arith) r e)) f)
     (ap (λ o. step_by (tree d) x o (inp r (end_after l us) n)) (steps_none x r (end_after l us) n 1 (omega arith) e)))
 
 -- ---- operators before their operands
@@ -220,18 +201,18 @@ power_self : same_sort k.Power k.Power ≡ true
 unfolding same_sort
 power_self = refl
 
-raised_ends : (d : ℕ) (x : Grown) (b : Bool) (r : List Lexeme) (l n : ℕ) → Ends 2 r → (if b then pure x else raised (tree d) x) (inp r l n) ≡ done x (inp r l n)
+raised_ends : (d : ℕ) (x : Grown) (b : Bool) (r : List Lexeme) (l n : ℕ) → Ends false 2 r → (if b then pure x else raised (tree d) x) (inp r l n) ≡ done x (inp r l n)
 unfolding raised
 raised_ends d x true r l n e = refl
 raised_ends d x false r l n e =
-    ap (λ o. and_then o (λ is_raised. if is_raised then (tree d goal.Power >>= (λ y. joined k.Power x y)) else pure x)) (eat_is k.Power r l n false (not_sort k.Power 2 power_other (λ line. omega arith) r e))
+    ap (λ o. and_then o (λ is_raised. if is_raised then (tree d goal.Power >>= (λ y. joined k.Power x y)) else pure x)) (eat_is k.Power r l n false (not_sort false k.Power 2 power_other (λ line. omega arith) r e))
 
 pub unraised_reads : (d : ℕ) (us : List Lexeme) (x : Grown) → Claim d Unary us x → Claim (suc d) Power us x
 unfolding power tree sort
 unraised_reads d us x h r l n e =
     let s = sort_at (us ++ r) in
     let f : Grown → Parser Grown = λ x. if is_prefix s then pure x else raised (tree (suc d)) x in
-    gets_to (gets_then (h r l n (looser 1 2 (omega arith) r e)) f) (raised_ends (suc d) x (is_prefix s) r (end_after l us) n e)
+    gets_to (gets_then (h r l n (looser false 1 2 (omega arith) r e)) f) (raised_ends (suc d) x (is_prefix s) r (end_after l us) n e)
 
 power_goes : (d : ℕ) (x : Grown) (t : Lexeme) (ts : List Lexeme) (l n : ℕ) → t.sort ≡ k.Power → raised (tree d) x (inp (t ∷ ts) l n) ≡ and_then (tree d goal.Power (inp ts t.to n)) (λ y. joined k.Power x y)
 unfolding raised next
@@ -249,7 +230,7 @@ raised_reads d us vs t x y derives h c i r l n e =
     let ts = t ∷ (vs ++ r) in
     let s = sort_at (us ++ ts) in
     let f : Grown → Parser Grown = λ x. if is_prefix s then pure x else raised (tree (suc d)) x in
-    let loose : Ends 1 ts = omega (arith, ap (λ s. looseness t.line_before s) c) in
+    let loose : Ends false 1 ts = omega (arith, ap (λ s. looseness false t.line_before s) c) in
     let base = no_operator_reads d us x derives h ts l n loose in
     let tall = max x.height y.height in
     let is : f x (inp ts (end_after l us) n) ≡ and_then (power (tree d) (inp (vs ++ r) t.to n)) (λ y. joined k.Power x y) =

@@ -1,13 +1,13 @@
 -- What the rules read, in the words of the grammar.
-use Rattle.std.proofs.Common.{◌≡◌, ℕ, suc, ◌≤◌, ◌<◌, false, List, [], ◌∷◌, ◌++◌, Ok, refl, sym, ap, ◌∙◌, subst, append_assoc, append-nil, arith, ◌⊎◌, inl, inr}
+use Rattle.std.proofs.Common.{◌≡◌, ℕ, suc, ◌≤◌, ◌<◌, false, List, [], ◌∷◌, ◌++◌, Ok, refl, sym, ap, ◌∙◌, subst, append_assoc, append-nil, arith}
 use Rattle.sr_ast.specs.declared.tree.Node.{Node}
-use Rattle.sr_parse.specs.declared.sorts.Content.TheVariants.{Nothing}
-use Rattle.sr_parse.specs.declared.sorts.Sort.{Sort}
-use Rattle.sr_parse.specs.declared.sorts.Lexeme.{Lexeme}
-use Rattle.sr_parse.specs.declared.grown.Grown.{Grown}
-use Rattle.sr_parse.specs.Input.{Parser, ◌>>=◌, complete, max_depth}
+use Rattle.sr_syntax.specs.declared.sorts.Content.TheVariants.{Nothing}
+use Rattle.sr_syntax.specs.declared.sorts.Sort.{Sort}
+use Rattle.sr_syntax.specs.declared.sorts.Lexeme.{Lexeme}
+use Rattle.sr_syntax.specs.declared.grown.Grown.{Grown}
+use Rattle.sr_syntax.specs.Input.{Parser, ◌>>=◌, complete, max_depth}
 use Rattle.sr_grammar.specs.Derivations.{Symbol, Derives, end_after, whole}
-use Rattle.sr_grammar.specs.Faults.{Begins, NoTarget}
+use Rattle.sr_grammar.specs.Faults.{Begins}
 use Rattle.sr_grammar.proofs.Steps.{Fact, Fault, Need, Parses, Both, both, Either, first, second, Never, Pure, nothing, Completed, completed, ending, map, then_any, purely, completing, end_append}
 
 pub data Derived (d : ℕ) (s : Symbol) (l n : ℕ) (us ts : List Lexeme) (x : Grown) : Type 0 where
@@ -73,12 +73,9 @@ token s = record { sort = s; content = Nothing; from = 0; to = 0; line_before = 
 
 -- ---- where symbols begin
 
-abbrev pub Starts : Symbol → List Lexeme → Type 0
-Starts s us = Begins s us ⊎ NoTarget us
-
 -- a symbol fails, of which these tokens are the beginning
 pub data Start (s : Symbol) (l n : ℕ) (us ts : List Lexeme) : Type 0 where
-  start : Starts s us → Start s l n us ts
+  start : Begins s us → Start s l n us ts
 
 -- The whole of a symbol from the whole of its part, which stands in these tokens and before more.
 pub record Fill (s : Symbol) (vs : List Lexeme) : Type 0 where
@@ -87,39 +84,29 @@ pub record Fill (s : Symbol) (vs : List Lexeme) : Type 0 where
   pub made : Grown
   pub derives : Derives depth s (vs ++ more) made
 
-pub starts_of_fill : {s : Symbol} {vs : List Lexeme} → Fill s vs → Starts s vs
-starts_of_fill f = inl (record { open_at_most = f.depth; more = f.more; made = f.made; derives = f.derives })
+pub begins_of_fill : {s : Symbol} {vs : List Lexeme} → Fill s vs → Begins s vs
+begins_of_fill f = record { open_at_most = f.depth; more = f.more; made = f.made; derives = f.derives }
 
 pub begin_in : {s p : Symbol} (C : List Lexeme → List Lexeme) → ((us vs : List Lexeme) → C (us ++ vs) ≡ C us ++ vs)
-    → ((e : ℕ) (vs : List Lexeme) (x : Grown) → Derives e p vs x → Fill s (C vs)) → (us : List Lexeme) → Starts p us → Starts s (C us)
-begin_in {s} {p} C law fill us (inl b) =
+    → ((e : ℕ) (vs : List Lexeme) (x : Grown) → Derives e p vs x → Fill s (C vs)) → (us : List Lexeme) → Begins p us → Begins s (C us)
+begin_in {s} {p} C law fill us b =
     let f = fill b.open_at_most (us ++ b.more) b.made b.derives in
-    inl (record {
+    record {
       open_at_most = f.depth;
       more = b.more ++ f.more;
       made = f.made;
       derives = subst (λ zs. Derives f.depth s zs f.made) (ap (λ zs. zs ++ f.more) (law us b.more) ∙ append_assoc (C us) b.more f.more) f.derives;
-    })
-begin_in {s} {p} C law fill us (inr b) = inr (record {
-  ahead = C [] ++ b.ahead;
-  step = b.step;
-  op = b.op;
-  is_step = b.is_step;
-  behind = b.behind;
-  left = b.left;
-  no_target = b.no_target;
-  whole = ap C b.whole ∙ law [] (b.ahead ++ b.step ∷ b.behind) ∙ sym (append_assoc (C []) b.ahead (b.step ∷ b.behind));
-})
+    }
 
 -- nothing more is wanted
 pub filled : {s : Symbol} (e : ℕ) (vs : List Lexeme) (x : Grown) → Derives e s vs x → Fill s vs
 filled {s} e vs x h = record { depth = e; more = []; made = x; derives = subst (λ zs. Derives e s zs x) (sym (append-nil vs)) h }
 
 -- the same tokens, as another symbol
-pub begin_as : {s p : Symbol} → ((e : ℕ) (vs : List Lexeme) (x : Grown) → Derives e p vs x → Fill s vs) → {us : List Lexeme} → Starts p us → Starts s us
+pub begin_as : {s p : Symbol} → ((e : ℕ) (vs : List Lexeme) (x : Grown) → Derives e p vs x → Fill s vs) → {us : List Lexeme} → Begins p us → Begins s us
 begin_as fill {us} h = begin_in (λ vs. vs) (λ us vs. refl) fill us h
 
 -- behind other tokens
 pub begin_behind : {s p : Symbol} (ws : List Lexeme) (t : Lexeme) → ((e : ℕ) (vs : List Lexeme) (x : Grown) → Derives e p vs x → Fill s (ws ++ t ∷ vs))
-    → {us : List Lexeme} → Starts p us → Starts s (ws ++ t ∷ us)
+    → {us : List Lexeme} → Begins p us → Begins s (ws ++ t ∷ us)
 begin_behind ws t fill {us} h = begin_in (λ vs. ws ++ t ∷ vs) (λ us vs. sym (append_assoc ws (t ∷ us) vs)) fill us h

@@ -1,62 +1,51 @@
 -- What the rules of operators with one operand and of `**` read, and where they fail.
-use Rattle.std.proofs.Common.{◌≡◌, ℕ, suc, ◌+◌, max, Bool, true, false, not, ◌&&◌, List, [], ◌∷◌, ◌++◌, Option, None, Some, refl, sym, ap, ◌∙◌, subst, append_assoc, append-nil, arith, inl, inr, if◌then◌else◌}
+use Rattle.std.proofs.Common.{◌≡◌, ℕ, suc, ◌+◌, max, Bool, true, false, not, ◌&&◌, List, [], ◌∷◌, ◌++◌, Option, None, Some, refl, sym, ap, ◌∙◌, subst, append_assoc, append-nil, arith, if◌then◌else◌}
 use Rattle.sr_ast.specs.declared.operators.UnaryOp.{UnaryOp}
 use Rattle.sr_ast.specs.declared.operators.UpdateOp.{UpdateOp}
 use Rattle.sr_ast.specs.declared.tree.Node.TheVariants as node
-use Rattle.sr_parse.specs.declared.sorts.Sort.TheVariants as k
-use Rattle.sr_parse.specs.declared.sorts.Sort.{Sort}
-use Rattle.sr_parse.specs.declared.sorts.Lexeme.{Lexeme}
-use Rattle.sr_parse.specs.declared.grown.Grown.{Grown}
-use Rattle.sr_parse.specs.Sorts.{same_sort}
-use Rattle.sr_parse.specs.Input.{Input, sort, sort_at, line_before, line_at}
-use Rattle.sr_parse.specs.Grammar.{prefix, is_prefix, is_prefix_of, update_before, update_after, from_of, is_target, steps, stepped, step_by, step_after, update_by, update, unary_by, unary_, raised, power, joined, joined_node, tree}
-use Rattle.sr_grammar.specs.Derivations.{Symbol, Derives, Assign, Left, Update, Unary, Power, Primary, end_after, whole}
+use Rattle.sr_syntax.specs.declared.sorts.Sort.TheVariants as k
+use Rattle.sr_syntax.specs.declared.sorts.Sort.{Sort}
+use Rattle.sr_syntax.specs.declared.sorts.Lexeme.{Lexeme}
+use Rattle.sr_syntax.specs.declared.grown.Grown.{Grown}
+use Rattle.sr_syntax.specs.Sorts.{same_sort}
+use Rattle.sr_syntax.specs.Input.{Input, sort, sort_at, line_before, line_at}
+use Rattle.sr_syntax.specs.Grammar.{prefix, is_prefix, is_prefix_of, update_before, update_after, from_of, is_target, steps, stepped, step_by, step_after, update_by, update, unary_by, unary_, raised, power, joined, joined_node, tree}
+use Rattle.sr_grammar.specs.Derivations.{Symbol, Derives, Left, Chain, Update, Unary, Power, end_after, whole}
 use Rattle.sr_grammar.specs.Derivations as g
-use Rattle.sr_grammar.specs.Faults.{Begins, NoTarget}
+use Rattle.sr_grammar.specs.Faults.{Begins}
 use Rattle.sr_grammar.proofs.Steps.{inp, Fact, Any, Parses, Both, both, Either, first, second, Never, Nowhere, Pure, nothing, Looked, looked, Taken, taken, Eaten, ate, absent, Here, here, Completed, completed, Chosen, yes, no, ChosenFault, yes_fault, no_fault, map, map_given, given, then_any, bind, look, take, Shallow, Some_left, At, by_first, sort_shallow, eaten, purely, refused, completing, choose_any, not_both, ending, end_append, sort_alike, line_alike}
 use Rattle.sr_grammar.proofs.Depths.{lift}
-use Rattle.sr_grammar.proofs.Facts.{Derived, derived, Opened, opened, Closed, closed, closing, bare, known_as, finished, end_behind, Starts, Start, start, begin_as, begin_behind, filled}
+use Rattle.sr_grammar.proofs.Facts.{Derived, derived, Opened, opened, Closed, closed, closing, bare, known_as, finished, end_behind, Start, start, begins_of_fill, begin_in, begin_as, begin_behind, filled}
 use Rattle.sr_grammar.proofs.Lists.{Nested}
-use Rattle.sr_grammar.proofs.Sides.{lefts, unit_of, unit_shallow, start_primary}
+use Rattle.sr_grammar.proofs.Targets.{Plain, plain, chain_of_plain, left_of_plain, step_of_chain}
+use Rattle.sr_grammar.proofs.Sides.{left_sides, unit_of, unit_shallow}
 
 -- the next token has the kind that was seen
 abbrev some_left : {X : Type 0} (f : Sort → X) (v : X) (from : ℕ) → (f k.End ≡ v → ⊥) → (ts : List Lexeme) → At f v from ts → Some_left ts
 some_left f v from other [] m = absurd (other m)
 some_left f v from other (t ∷ ts) m = tt
 
-start_left : Starts Left []
-start_left = begin_as (λ e vs x h. filled e vs x (g.uncalled h)) start_primary
-
 -- ---- `++` and `--` before an operand
 
 abbrev SteppedFact : ℕ → UpdateOp → ℕ → Fact Grown
-SteppedFact d op from = Both (Taken unit_of) (λ u. Both (Derived d Left) (λ x. Chosen (is_target x) (Completed (node.Update op x.tree) from x.height) Nowhere))
+SteppedFact d op from = Both (Taken unit_of) (λ u. Both (Plain d) (λ x. Chosen (is_target x) (Completed (node.Update op x.tree) from x.height) Nowhere))
 
 stepped_fact : {d l n : ℕ} {us ts : List Lexeme} {x : Grown} (op : UpdateOp) (from : ℕ) → At update_before (Some op) from (us ++ ts) → SteppedFact d op from l n us ts x → Derived d Update l n us ts x
-stepped_fact op from m (both (taken t e) (both {us} {x} (derived h b) (yes f (completed fits is)))) =
-    bare (finished fits (is ∙ ap (λ a. ending (node.Update op x.tree) a (end_after t.to us) x.height) (sym m.1)) refl (g.before m.0 h f))
-stepped_fact op from m (both (taken t e) (both (derived h b) (no f r))) = elim r [ ]
+stepped_fact op from m (both (taken t e) (both {us} {x} (plain h b) (yes f (completed fits is)))) =
+    bare (finished fits (is ∙ ap (λ a. ending (node.Update op x.tree) a (end_after t.to us) x.height) (sym m.1)) refl (g.before m.0 (left_of_plain h) f))
+stepped_fact op from m (both (taken t e) (both (plain h b) (no f r))) = elim r [ ]
 
--- a Left begins behind the operator: with a target as it the operator is an Update
-stepped_starts : (op : UpdateOp) (t : Lexeme) → update_before t.sort ≡ Some op → {us : List Lexeme} → Begins Left us → Starts Update (t ∷ us)
-stepped_starts op t c {us} b = target (is_target b.made) refl
-  where
-    target : (is : Bool) → is_target b.made ≡ is → Starts Update (t ∷ us)
-    target true is = inl (record { open_at_most = b.open_at_most; more = b.more; made = _; derives = g.before c b.derives is })
-    target false is = inr (record { ahead = []; step = t; op = op; is_step = c; behind = us; left = b; no_target = is; whole = refl })
-
-behind_step : (t : Lexeme) {us : List Lexeme} → NoTarget us → NoTarget (t ∷ us)
-behind_step t b = record { ahead = t ∷ b.ahead; step = b.step; op = b.op; is_step = b.is_step; behind = b.behind; left = b.left; no_target = b.no_target; whole = ap (λ zs. t ∷ zs) b.whole }
+-- a Chain behind the operator goes on to a target
+step_begins : (op : UpdateOp) (t : Lexeme) → update_before t.sort ≡ Some op → {us : List Lexeme} → Begins (Chain false) us → Begins Update (t ∷ us)
+step_begins op t c {us} b = begin_in (λ zs. t ∷ zs) (λ us vs. refl) (step_of_chain op t c) us b
 
 stepped_fault : {d l n : ℕ} {us ts : List Lexeme} (op : UpdateOp) (from : ℕ) → At update_before (Some op) from (us ++ ts)
-    → Either Never (Taken unit_of) (λ u. Either (Start Left) (Derived d Left) (λ x. ChosenFault (is_target x) Never Here)) l n us ts → Start Update l n us ts
+    → Either Never (Taken unit_of) (λ u. Either (Start (Chain false)) (Plain d) (λ x. ChosenFault (is_target x) Never Here)) l n us ts → Start Update l n us ts
 stepped_fault op from m (first c) = elim c [ ]
-stepped_fault op from m (second (taken t e) (first (start (inl b)))) = start (stepped_starts op t m.0 b)
-stepped_fault op from m (second (taken t e) (first (start (inr b)))) = start (inr (behind_step t b))
-stepped_fault op from m (second (taken t e) (second (derived h b) (yes_fault f c))) = elim c [ ]
-stepped_fault {d} op from m (second (taken t e) (second {us = us} {x = x} (derived h b) (no_fault f here))) =
-    start (subst (λ zs. Starts Update (t ∷ zs)) (sym (append-nil us))
-    (stepped_starts op t m.0 (record { open_at_most = d; more = []; made = x; derives = subst (λ zs. Derives d Left zs x) (sym (append-nil us)) h })))
+stepped_fault op from m (second (taken t e) (first (start b))) = start (step_begins op t m.0 b)
+stepped_fault op from m (second (taken t e) (second (plain h b) (yes_fault f c))) = elim c [ ]
+stepped_fault op from m (second (taken t e) (second {us = us} (plain h b) (no_fault f here))) =
+    start (subst (λ zs. Begins Update (t ∷ zs)) (sym (append-nil us)) (step_begins op t m.0 (begins_of_fill (chain_of_plain h))))
 
 -- ---- `++` and `--` behind an operand
 
@@ -117,7 +106,7 @@ module _ (d : ℕ) (nest : Nested d) where
   steps_after : Parses (λ e. step_after (tree e)) d Any (Derived d Update) (Start Update)
   unfolding step_after
   steps_after = map (λ l n us ts x r. step_fact r) (λ l n us ts r. step_fault r)
-      (then_any (lefts d nest) (λ of. bind (λ l n us ts o m r. seen of o r) (look (look_steps of) (steps_shallow of)) (λ o. step_bys d of o)))
+      (then_any (left_sides true d nest) (λ of. bind (λ l n us ts o m r. seen of o r) (look (look_steps of) (steps_shallow of)) (λ o. step_bys d of o)))
     where
       seen : {l n : ℕ} {us ts : List Lexeme} (of : Grown) (o : Option UpdateOp) → Looked (look_steps of) l n us ts o → Seen of o ts
       seen of None r = tt
@@ -128,7 +117,7 @@ module _ (d : ℕ) (nest : Nested d) where
   updates_by from None = given (λ ts m. tt) steps_after
   updates_by from (Some op) = map_given (λ l n us ts x m r. stepped_fact op from m r) (λ l n us ts m r. stepped_fault op from m r)
       (then_any (given (some_left update_before (Some op) from (λ e. cc)) (take unit_of unit_shallow))
-      (λ u. then_any (lefts d nest) (λ of. choose_any (is_target of) (completing (node.Update op of.tree) from of.height) refused)))
+      (λ u. then_any (left_sides false d nest) (λ of. choose_any (is_target of) (completing (node.Update op of.tree) from of.height) refused)))
 
   pub updates : Parses (λ e. update (tree e)) d Any (Derived d Update) (Start Update)
   unfolding update

@@ -1,21 +1,21 @@
 -- Scripts.
 use Rattle.std.proofs.Common.{◌≡◌, ℕ, zero, suc, ◌+◌, ◌≤◌, ◌<◌, Bool, true, false, List, [], ◌∷◌, ◌++◌, length, Ok, Err, refl, sym, ap, ◌∙◌, subst, append_assoc, append-nil, length-append, arith}
 use Rattle.sr_ast.specs.declared.tree.Tree.{Tree}
-use Rattle.sr_parse.specs.declared.sorts.Sort.TheVariants as k
-use Rattle.sr_parse.specs.declared.sorts.Lexeme.{Lexeme}
-use Rattle.sr_parse.specs.declared.grown.Grown.{Grown}
-use Rattle.sr_parse.specs.Sorts.{same_sort}
-use Rattle.sr_parse.specs.Input.{Input, Outcome, and_then, start, sort, sort_at, left, max_depth}
-use Rattle.sr_parse.specs.Grammar.{whole_item, script_from, script, script_of, value_of}
+use Rattle.sr_syntax.specs.declared.sorts.Sort.TheVariants as k
+use Rattle.sr_syntax.specs.declared.sorts.Lexeme.{Lexeme}
+use Rattle.sr_syntax.specs.declared.grown.Grown.{Grown}
+use Rattle.sr_syntax.specs.Sorts.{same_sort}
+use Rattle.sr_syntax.specs.Input.{Input, Outcome, and_then, start, sort, sort_at, left, max_depth}
+use Rattle.sr_syntax.specs.Grammar.{whole_item, script_from, script, script_of, value_of}
 use Rattle.sr_grammar.specs.Derivations.{end_after}
 use Rattle.sr_grammar.specs.Statements.{States, Clear}
 use Rattle.sr_grammar.specs.Statements as s
 use Rattle.sr_grammar.specs.Scripts.{Script, ended, statement, open_beside}
 use Rattle.sr_grammar.specs.Laws.{SoundScript, CompleteScript}
 use Rattle.sr_grammar.proofs.Steps.{inp, done, along, bind_ok, same_sort_true}
-use Rattle.sr_grammar.proofs.Starting.{starts}
+use Rattle.sr_grammar.proofs.Starting.{starts, not_close}
 use Rattle.sr_grammar.proofs.StatementSoundness.{stated, inners, states, some_of_statement}
-use Rattle.sr_grammar.proofs.StatementCompleteness.{clear_behind, not_close, reads_statement, statement_at}
+use Rattle.sr_grammar.proofs.StatementCompleteness.{clear_behind, reads_statement, statement_at}
 
 -- ---- what is read
 

@@ -2,28 +2,28 @@
 use Rattle.std.proofs.Common.{◌≡◌, ℕ, zero, suc, ◌+◌, ◌<◌, max, Bool, true, false, ◌||◌, List, [], ◌∷◌, ◌++◌, length, Option, None, Some, Ok, refl, sym, ap, ◌∙◌, subst, append_assoc, length-append, arith, if◌then◌else◌}
 use Rattle.sr_ast.specs.declared.tree.Node.TheVariants as node
 use Rattle.sr_ast.specs.declared.tree.Declaration.{Declaration}
-use Rattle.sr_parse.specs.declared.sorts.Sort.TheVariants as k
-use Rattle.sr_parse.specs.declared.sorts.Sort.{Sort}
-use Rattle.sr_parse.specs.declared.sorts.Lexeme.{Lexeme}
-use Rattle.sr_parse.specs.declared.grown.Grown.{Grown}
-use Rattle.sr_parse.specs.declared.grown.Grove.{Grove}
-use Rattle.sr_parse.specs.declared.grown.Part.{Part}
-use Rattle.sr_parse.specs.declared.grown.Goal.TheVariants as goal
-use Rattle.sr_parse.specs.Sorts.{same_sort}
-use Rattle.sr_parse.specs.Input.{Input, Outcome, Parser, ◌>>=◌, and_then, pure, eat, expect, sees, sort, sort_at, line_before, line_at, place, place_at, left, complete, text, text_of, next, start, semicolon}
-use Rattle.sr_parse.specs.Grammar.{expression, tree, none, with, from_of, nothing, part_of, tallest, name, items_from, items, block, condition, if_else, if_, do_while, do_, while_, declaration, declarations_from, declarations, var_, for_var, perhaps, for_first, for_body, for_rest, for_, plain, statement_by, statement}
-use Rattle.sr_grammar.specs.Derivations.{Derives, Expression, end_after, whole}
+use Rattle.sr_syntax.specs.declared.sorts.Sort.TheVariants as k
+use Rattle.sr_syntax.specs.declared.sorts.Sort.{Sort}
+use Rattle.sr_syntax.specs.declared.sorts.Lexeme.{Lexeme}
+use Rattle.sr_syntax.specs.declared.grown.Grown.{Grown}
+use Rattle.sr_syntax.specs.declared.grown.Grove.{Grove}
+use Rattle.sr_syntax.specs.declared.grown.Part.{Part}
+use Rattle.sr_syntax.specs.declared.grown.Goal.TheVariants as goal
+use Rattle.sr_syntax.specs.Sorts.{same_sort}
+use Rattle.sr_syntax.specs.Input.{Input, Parser, ◌>>=◌, and_then, pure, eat, expect, sees, sort, sort_at, line_before, line_at, place, place_at, left, complete, text, text_of, next, start, semicolon}
+use Rattle.sr_syntax.specs.Grammar.{assign_goal, statement_node, expression, tree, none, with, from_of, nothing, part_of, tallest, name, items_from, items, block, condition, if_else, if_, do_while, do_, while_, declaration, declarations_from, declarations, assign, var_, for_var, perhaps, for_first, for_body, for_rest, for_, plain, statement_by, statement}
+use Rattle.sr_grammar.specs.Derivations.{Derives, Expression, end_after, start_of, whole}
 use Rattle.sr_grammar.specs.Continuing.{looseness, Ends, EndsExpression}
 use Rattle.sr_grammar.specs.Statements.{Semicolon, written, before_brace, before_line, declared, value_height, Declares, no_value, a_value, Declarations, one_declaration, one_more_declaration, Condition, Perhaps, no_expression, an_expression, First, first_var, first_expression, States, Items, no_items, one_more_item, Clear}
 use Rattle.sr_grammar.specs.Statements as s
 use Rattle.sr_grammar.specs.Laws.{CompleteStatement, TooTallStatement, UniqueStatement, behind}
-use Rattle.sr_grammar.proofs.Steps.{inp, done, ending, eat_is, expect_is, end_append, not_both, same_sort_true, along}
+use Rattle.sr_grammar.proofs.Steps.{inp, done, ending, end_append, along}
 use Rattle.sr_grammar.proofs.Gets.{Gets, gets_is, gets_to, gets_then, gets_trans, gets_now, gets_max, gets_at, gets_whole, not_sort}
-use Rattle.sr_grammar.proofs.Completing.{is_sort, looser}
+use Rattle.sr_grammar.proofs.Completing.{Turns, is_sort, looser, loose_sort, comma_self, expect_goes, eat_yes, eat_no, nest_assign}
 use Rattle.sr_grammar.proofs.Claims.{end_at, gets_move}
 use Rattle.sr_grammar.proofs.Completeness.{reads}
-use Rattle.sr_grammar.proofs.Starting.{starting, starts}
-use Rattle.sr_grammar.proofs.StatementSoundness.{some_of_statement, some_tokens, end_some, given_value, given_none, more_open_statement_law}
+use Rattle.sr_grammar.proofs.Starting.{starting, starts, some_tokens, end_some, place_of, not_close}
+use Rattle.sr_grammar.proofs.StatementSoundness.{some_of_statement, given_value, given_none, more_open_statement_law}
 
 pub clear_behind : (us vs : List Lexeme) → Clear (us ++ vs) → Clear vs
 clear_behind [] vs h = h
@@ -53,19 +53,19 @@ semicolon_goes (written t c) l n = rw (is_sort k.Semicolon t.sort c semicolon_se
 semicolon_goes (before_brace {ts} c) l n = rw (ap (λ a. same_sort a k.Semicolon) c ∙ brace_other) (rw (is_sort k.RightBrace (sort_at ts) c brace_self) refl)
 semicolon_goes (before_line {ts} c e) l n = rw e (rw c (rw (or_true (same_sort (sort_at ts) k.RightBrace)) refl))
 
-loose : (t : Lexeme) (v : Sort) → t.sort ≡ v → ((line : Bool) → 16 < looseness line v) → (r : List Lexeme) → EndsExpression (t ∷ r)
-loose t v c low r = omega (arith, low t.line_before, ap (λ a. looseness t.line_before a) c)
+loose : (b : Bool) (t : Lexeme) (v : Sort) → t.sort ≡ v → ((line : Bool) → 16 < looseness b line v) → (r : List Lexeme) → EndsExpression b (t ∷ r)
+loose b t v c low r = loose_sort b t v 16 c low r
 
-semicolon_ends : {vs ts : List Lexeme} → Semicolon vs ts → Clear (vs ++ ts) → EndsExpression (vs ++ ts)
-semicolon_ends (written {ts} t c) h = loose t k.Semicolon c (λ line. omega arith) ts
+semicolon_ends : {vs ts : List Lexeme} → Semicolon vs ts → Clear (vs ++ ts) → EndsExpression true (vs ++ ts)
+semicolon_ends (written {ts} t c) h = loose true t k.Semicolon c (λ line. omega arith) ts
 semicolon_ends (before_brace {ts} c) h = go ts c
   where
-    go : (ts : List Lexeme) → sort_at ts ≡ k.RightBrace → EndsExpression ts
+    go : (ts : List Lexeme) → sort_at ts ≡ k.RightBrace → EndsExpression true ts
     go [] c = tt
-    go (t ∷ ts) c = loose t k.RightBrace c (λ line. omega arith) ts
+    go (t ∷ ts) c = loose true t k.RightBrace c (λ line. omega arith) ts
 semicolon_ends (before_line {ts} c e) h = go ts c h
   where
-    go : (ts : List Lexeme) → line_at ts ≡ true → Clear ts → EndsExpression ts
+    go : (ts : List Lexeme) → line_at ts ≡ true → Clear ts → EndsExpression true ts
     go [] c h = tt
     go (t ∷ ts) c h = rw c (h.0 c)
 
@@ -78,7 +78,7 @@ statement_is : (d : ℕ) (t : Lexeme) (r : List Lexeme) (l n : ℕ) (v : Sort) �
 unfolding statement sort place
 statement_is d t r l n v c = ap (λ a. statement_by (tree d) t.from a (inp (t ∷ r) l n)) c
 
-plain_by : (d from : ℕ) (v : Sort) → starting v ≡ true → (i : Input) → statement_by (tree d) from v i ≡ plain (tree d) i
+plain_by : (d from : ℕ) (v : Sort) → starting v ≡ true → (i : Input) → statement_by (tree d) from v i ≡ plain (tree d) from i
 plain_by d from k.LeftBrace e i = cc
 plain_by d from k.Var e i = cc
 plain_by d from k.Semicolon e i = cc
@@ -88,40 +88,29 @@ plain_by d from k.While e i = cc
 plain_by d from k.For e i = cc
 plain_by d from _ e i = refl
 
-plain_is : (d : ℕ) (ts : List Lexeme) (l n : ℕ) → starting (sort_at ts) ≡ true → statement (tree d) (inp ts l n) ≡ plain (tree d) (inp ts l n)
-unfolding statement sort
-plain_is d ts l n e = plain_by d (place (inp ts l n)) (sort_at ts) e (inp ts l n)
+plain_is : (d from : ℕ) (ts : List Lexeme) (l n : ℕ) → place_at n ts ≡ from → starting (sort_at ts) ≡ true → statement (tree d) (inp ts l n) ≡ plain (tree d) from (inp ts l n)
+unfolding statement sort place
+plain_is d from ts l n begun e = plain_by d (place_at n ts) (sort_at ts) e (inp ts l n) ∙ ap (λ a. plain (tree d) a (inp ts l n)) begun
 
-expression_statement_reads : (d : ℕ) (us vs ts : List Lexeme) (x : Grown) → Derives d Expression us x → Semicolon vs ts
-    → StateClaim d (us ++ vs) ts (whole (node.Expression x.tree) (from_of x) (us ++ vs) x.height)
+expression_statement_reads : (d : ℕ) (us vs ts : List Lexeme) (x : Grown) → Derives d (Expression true) us x → Semicolon vs ts
+    → StateClaim d (us ++ vs) ts (whole (statement_node (start_of us) x) (from_of x) (us ++ vs) x.height)
 unfolding plain
 expression_statement_reads d us vs ts x h c l n clear =
     let split : (us ++ vs) ++ ts ≡ us ++ (vs ++ ts) = append_assoc us vs ts in
     let clear_ : Clear (us ++ (vs ++ ts)) = subst Clear split clear in
-    let f : Grown → Parser Grown = λ x. semicolon >>= (λ u. complete (node.Expression x.tree) (from_of x) x.height) in
+    let f : Grown → Parser Grown = λ x. semicolon >>= (λ u. complete (statement_node (start_of us) x) (from_of x) x.height) in
     let one = reads h (vs ++ ts) l n (semicolon_ends c (clear_behind us (vs ++ ts) clear_)) in
-    let goes : f x (inp (vs ++ ts) (end_after l us) n) ≡ complete (node.Expression x.tree) (from_of x) x.height (inp ts (end_after (end_after l us) vs) n) =
-    ap (λ o. and_then o (λ u. complete (node.Expression x.tree) (from_of x) x.height)) (semicolon_goes c (end_after l us) n) in
-    subst (λ zs. Gets (statement (tree d) (inp zs l n)) (x.height + 1) (done (whole (node.Expression x.tree) (from_of x) (us ++ vs) x.height) (inp ts (end_after l (us ++ vs)) n))) (sym split)
-    (gets_move (λ a b. done (ending (node.Expression x.tree) (from_of x) a x.height) (inp ts b n)) (end_after (end_after l us) vs) (end_after 0 (us ++ vs)) (end_after l (us ++ vs))
+    let goes : f x (inp (vs ++ ts) (end_after l us) n) ≡ complete (statement_node (start_of us) x) (from_of x) x.height (inp ts (end_after (end_after l us) vs) n) =
+    ap (λ o. and_then o (λ u. complete (statement_node (start_of us) x) (from_of x) x.height)) (semicolon_goes c (end_after l us) n) in
+    subst (λ zs. Gets (statement (tree d) (inp zs l n)) (x.height + 1) (done (whole (statement_node (start_of us) x) (from_of x) (us ++ vs) x.height) (inp ts (end_after l (us ++ vs)) n))) (sym split)
+    (gets_move (λ a b. done (ending (statement_node (start_of us) x) (from_of x) a x.height) (inp ts b n)) (end_after (end_after l us) vs) (end_after 0 (us ++ vs)) (end_after l (us ++ vs))
     (sym (end_append l us vs) ∙ end_some l 0 (us ++ vs) (omega (arith, some_tokens h, length-append us vs))) (sym (end_append l us vs))
-    (gets_is (plain (tree d) (inp (us ++ (vs ++ ts)) l n)) (plain_is d (us ++ (vs ++ ts)) l n (starts h (vs ++ ts)))
+    (gets_is (plain (tree d) (start_of us) (inp (us ++ (vs ++ ts)) l n)) (plain_is d (start_of us) (us ++ (vs ++ ts)) l n (place_of h n (vs ++ ts)) (starts h (vs ++ ts)))
     (gets_trans x.height (x.height + 1) (omega arith) (gets_then one f)
-    (gets_is (complete (node.Expression x.tree) (from_of x) x.height (inp ts (end_after (end_after l us) vs) n)) goes
-    (gets_whole (node.Expression x.tree) (from_of x) x.height ts (end_after (end_after l us) vs) n)))))
+    (gets_is (complete (statement_node (start_of us) x) (from_of x) x.height (inp ts (end_after (end_after l us) vs) n)) goes
+    (gets_whole (statement_node (start_of us) x) (from_of x) x.height ts (end_after (end_after l us) vs) n)))))
 
 -- ---- tokens
-
-expect_goes : {A : Type 0} (v : Sort) (t : Lexeme) (r : List Lexeme) (l n : ℕ) → t.sort ≡ v → same_sort v v ≡ true → (f : Unit {0} → Parser A) → and_then (expect v (inp (t ∷ r) l n)) f ≡ f tt (inp r t.to n)
-unfolding next
-expect_goes v t r l n c self f = ap (λ o. and_then o f) (expect_is v (t ∷ r) l n true (is_sort v t.sort c self))
-
-eat_yes : {A : Type 0} (v : Sort) (t : Lexeme) (r : List Lexeme) (l n : ℕ) → t.sort ≡ v → same_sort v v ≡ true → (f : Bool → Parser A) → and_then (eat v (inp (t ∷ r) l n)) f ≡ f true (inp r t.to n)
-unfolding next
-eat_yes v t r l n c self f = ap (λ o. and_then o f) (eat_is v (t ∷ r) l n true (is_sort v t.sort c self))
-
-eat_no : {A : Type 0} (v : Sort) (r : List Lexeme) (l n : ℕ) → same_sort (sort_at r) v ≡ false → (f : Bool → Parser A) → and_then (eat v (inp r l n)) f ≡ f false (inp r l n)
-eat_no v r l n c f = ap (λ o. and_then o f) (eat_is v r l n false c)
 
 left_self : same_sort k.LeftParenthesis k.LeftParenthesis ≡ true
 unfolding same_sort
@@ -130,10 +119,6 @@ left_self = refl
 right_self : same_sort k.RightParenthesis k.RightParenthesis ≡ true
 unfolding same_sort
 right_self = refl
-
-comma_self : same_sort k.Comma k.Comma ≡ true
-unfolding same_sort
-comma_self = refl
 
 assign_self : same_sort k.Assign k.Assign ≡ true
 unfolding same_sort
@@ -163,35 +148,27 @@ assign_other : same_sort k.End k.Assign ≡ false
 unfolding same_sort
 assign_other = refl
 
--- a token with which expressions begin is not one with which they do not
-pub not_close : (v t : Sort) → starting v ≡ false → starting t ≡ true → same_sort t v ≡ false
-not_close v t e f = go (same_sort t v) refl
-  where
-    go : (b : Bool) → same_sort t v ≡ b → same_sort t v ≡ false
-    go true is = absurd (not_both f (ap starting (same_sort_true t v is) ∙ e))
-    go false is = is
-
 -- ---- conditions and the heads of loops
 
 condition_goes : {d : ℕ} {us : List Lexeme} {x : Grown} → Condition d us x → (r : List Lexeme) (l n : ℕ) → Gets (condition (tree d) (inp (us ++ r) l n)) x.height (done x (inp r (end_after l us) n))
 unfolding condition
 condition_goes {d} (s.condition {us} {x} t c h u e) r l n =
     let f : Grown → Parser Grown = λ x. expect k.RightParenthesis >>= (λ v. pure x) in
-    let one = reads h (u ∷ r) t.to n (loose u k.RightParenthesis e (λ line. omega arith) r) in
-    gets_is (and_then (expression (tree d) (inp ((us ++ u ∷ []) ++ r) t.to n)) f) (expect_goes k.LeftParenthesis t ((us ++ u ∷ []) ++ r) l n c left_self (λ v. expression (tree d) >>= f))
-    (subst (λ zs. Gets (and_then (expression (tree d) (inp zs t.to n)) f) x.height (done x (inp r (end_after t.to (us ++ u ∷ [])) n))) (sym (append_assoc us (u ∷ []) r))
+    let one = reads h (u ∷ r) t.to n (loose true u k.RightParenthesis e (λ line. omega arith) r) in
+    gets_is (and_then (expression (tree d) true (inp ((us ++ u ∷ []) ++ r) t.to n)) f) (expect_goes k.LeftParenthesis t ((us ++ u ∷ []) ++ r) l n c left_self (λ v. expression (tree d) true >>= f))
+    (subst (λ zs. Gets (and_then (expression (tree d) true (inp zs t.to n)) f) x.height (done x (inp r (end_after t.to (us ++ u ∷ [])) n))) (sym (append_assoc us (u ∷ []) r))
     (gets_to (gets_then one f) (expect_goes k.RightParenthesis u r (end_after t.to us) n e right_self (λ v. pure x) ∙ ap (λ a. done x (inp r a n)) (end_at t.to us [] u))))
 
-perhaps_goes : {d : ℕ} {close : Sort} {us : List Lexeme} {p : Part} → Perhaps d close us p → same_sort close close ≡ true → starting close ≡ false → ((line : Bool) → 16 < looseness line close)
-    → (r : List Lexeme) (l n : ℕ) → Gets (perhaps (tree d) close (inp (us ++ r) l n)) p.height (Ok (p, inp r (end_after l us) n))
+perhaps_goes : {b : Bool} {d : ℕ} {close : Sort} {us : List Lexeme} {p : Part} → Perhaps b d close us p → same_sort close close ≡ true → starting close ≡ false → ((line : Bool) → 16 < looseness b line close)
+    → (r : List Lexeme) (l n : ℕ) → Gets (perhaps (tree d) b close (inp (us ++ r) l n)) p.height (Ok (p, inp r (end_after l us) n))
 unfolding perhaps
-perhaps_goes {d} {close} (no_expression u c) self other low r l n =
-    gets_now 0 (eat_yes close u r l n c self (λ b. if b then pure nothing else (expression (tree d) >>= (λ x. expect close >>= (λ v. pure (part_of x)))))) (omega arith)
-perhaps_goes {d} {close} (an_expression {us} {x} h u c) self other low r l n =
+perhaps_goes {b} {d} {close} (no_expression u c) self other low r l n =
+    gets_now 0 (eat_yes close u r l n c self (λ c. if c then pure nothing else (expression (tree d) b >>= (λ x. expect close >>= (λ v. pure (part_of x)))))) (omega arith)
+perhaps_goes {b} {d} {close} (an_expression {us} {x} h u c) self other low r l n =
     let f : Grown → Parser Part = λ x. expect close >>= (λ v. pure (part_of x)) in
-    let one = reads h (u ∷ r) l n (loose u close c low r) in
-    subst (λ zs. Gets (perhaps (tree d) close (inp zs l n)) x.height (Ok (part_of x, inp r (end_after l (us ++ u ∷ [])) n))) (sym (append_assoc us (u ∷ []) r))
-    (gets_is (and_then (expression (tree d) (inp (us ++ u ∷ r) l n)) f) (eat_no close (us ++ u ∷ r) l n (not_close close (sort_at (us ++ u ∷ r)) other (starts h (u ∷ r))) (λ b. if b then pure nothing else (expression (tree d) >>= f)))
+    let one = reads h (u ∷ r) l n (loose b u close c low r) in
+    subst (λ zs. Gets (perhaps (tree d) b close (inp zs l n)) x.height (Ok (part_of x, inp r (end_after l (us ++ u ∷ [])) n))) (sym (append_assoc us (u ∷ []) r))
+    (gets_is (and_then (expression (tree d) b (inp (us ++ u ∷ r) l n)) f) (eat_no close (us ++ u ∷ r) l n (not_close close (sort_at (us ++ u ∷ r)) other (starts h (u ∷ r))) (λ c. if c then pure nothing else (expression (tree d) b >>= f)))
     (gets_to (gets_then one f) (expect_goes close u r (end_after l us) n c self (λ v. pure (part_of x)) ∙ ap (λ a. Ok (part_of x, inp r a n)) (end_at l us [] u))))
 
 -- ---- declarations
@@ -200,83 +177,77 @@ name_goes : (t : Lexeme) (r : List Lexeme) (l n : ℕ) → t.sort ≡ k.Identifi
 unfolding name sees sort text next
 name_goes t r l n c = rw (is_sort k.Identifier t.sort c identifier_self) refl
 
-declaration_goes : {d : ℕ} {us : List Lexeme} {t : Lexeme} {v : Option Grown} → Declares d us t v → (r : List Lexeme) (l n : ℕ) → Ends 15 r
-    → Gets (declaration (tree d) (inp (us ++ r) l n)) (value_height v) (Ok ((declared t v, value_height v), inp r (end_after l us) n))
+declaration_goes : {has : Bool} {d : ℕ} {us : List Lexeme} {t : Lexeme} {v : Option Grown} → Declares has d us t v → (r : List Lexeme) (l n : ℕ) → Ends has 15 r
+    → Gets (declaration (tree d) has (inp (us ++ r) l n)) (value_height v) (Ok ((declared t v, value_height v), inp r (end_after l us) n))
 unfolding declaration place tree
-declaration_goes {d} (no_value t c) r l n e =
-    let rest : List ℕ → Parser (Declaration × ℕ) = λ called. eat k.Assign >>= (λ b. if b then (tree d goal.Assign >>= (λ x. pure (given_value called t.from x))) else pure (given_none called t.from)) in
+declaration_goes {has} {d} (no_value t c) r l n e =
+    let rest : List ℕ → Parser (Declaration × ℕ) = λ called. eat k.Assign >>= (λ b. if b then (tree d (assign_goal has) >>= (λ x. pure (given_value called t.from x))) else pure (given_none called t.from)) in
     gets_now 0 (ap (λ o. and_then o rest) (name_goes t r l n c)
-    ∙ eat_no k.Assign r t.to n (not_sort k.Assign 15 assign_other (λ line. omega arith) r e) (λ b. if b then (tree d goal.Assign >>= (λ x. pure (given_value (text_of t.content) t.from x))) else pure (given_none (text_of t.content) t.from))) (omega arith)
-declaration_goes (a_value {d} {us} {x} t u c q h) r l n e =
-    let rest : List ℕ → Parser (Declaration × ℕ) = λ called. eat k.Assign >>= (λ b. if b then (tree (suc d) goal.Assign >>= (λ x. pure (given_value called t.from x))) else pure (given_none called t.from)) in
-    gets_is (and_then (tree (suc d) goal.Assign (inp (us ++ r) u.to n)) (λ x. pure (given_value (text_of t.content) t.from x)))
+    ∙ eat_no k.Assign r t.to n (not_sort has k.Assign 15 assign_other (λ line. omega arith) r e) (λ b. if b then (tree d (assign_goal has) >>= (λ x. pure (given_value (text_of t.content) t.from x))) else pure (given_none (text_of t.content) t.from))) (omega arith)
+declaration_goes {has} (a_value {d = d} {us = us} {x = x} t u c q h) r l n e =
+    let rest : List ℕ → Parser (Declaration × ℕ) = λ called. eat k.Assign >>= (λ b. if b then (tree (suc d) (assign_goal has) >>= (λ x. pure (given_value called t.from x))) else pure (given_none called t.from)) in
+    gets_is (and_then (tree (suc d) (assign_goal has) (inp (us ++ r) u.to n)) (λ x. pure (given_value (text_of t.content) t.from x)))
     (ap (λ o. and_then o rest) (name_goes t (u ∷ (us ++ r)) l n c)
-    ∙ eat_yes k.Assign u (us ++ r) t.to n q assign_self (λ b. if b then (tree (suc d) goal.Assign >>= (λ x. pure (given_value (text_of t.content) t.from x))) else pure (given_none (text_of t.content) t.from)))
-    (gets_then (reads h r u.to n e) (λ x. pure (given_value (text_of t.content) t.from x)))
+    ∙ eat_yes k.Assign u (us ++ r) t.to n q assign_self (λ b. if b then (tree (suc d) (assign_goal has) >>= (λ x. pure (given_value (text_of t.content) t.from x))) else pure (given_none (text_of t.content) t.from)))
+    (gets_then (gets_is (assign (tree d) has (inp (us ++ r) u.to n)) (nest_assign d has (inp (us ++ r) u.to n)) (reads h r u.to n e)) (λ x. pure (given_value (text_of t.content) t.from x)))
 
--- the turns of a loop that has more of them than there are tokens
-record Turns {A : Type 0} (o : Outcome A) (h : ℕ) (L : ℕ → Outcome A) (r : List Lexeme) : Type 0 where
-  turns : ℕ
-  enough : length r < turns
-  gets : Gets o h (L turns)
+abbrev after_one : Bool → ℕ → ℕ → List Declaration → ℕ → (Declaration × ℕ) → Parser (List Declaration × ℕ)
+after_one has d m found tall x = eat k.Comma >>= (λ more. if more then declarations_from (tree d) has m (found ++ x.0 ∷ []) (max tall x.1) else pure (found ++ x.0 ∷ [], max tall x.1))
 
-abbrev after_one : ℕ → ℕ → List Declaration → ℕ → (Declaration × ℕ) → Parser (List Declaration × ℕ)
-after_one d m found tall x = eat k.Comma >>= (λ more. if more then declarations_from (tree d) m (found ++ x.0 ∷ []) (max tall x.1) else pure (found ++ x.0 ∷ [], max tall x.1))
-
-declaration_before_comma : {d : ℕ} {us : List Lexeme} {t : Lexeme} {v : Option Grown} → Declares d us t v → (u : Lexeme) → u.sort ≡ k.Comma → (found : List Declaration) (tall : ℕ) (r : List Lexeme) (l n m : ℕ) → length (us ++ u ∷ r) < m
-    → Turns (declarations_from (tree d) m found tall (inp (us ++ u ∷ r) l n)) (value_height v) (λ m. declarations_from (tree d) m (found ++ declared t v ∷ []) (max tall (value_height v)) (inp r u.to n)) r
+declaration_before_comma : {has : Bool} {d : ℕ} {us : List Lexeme} {t : Lexeme} {v : Option Grown} → Declares has d us t v → (u : Lexeme) → u.sort ≡ k.Comma → (found : List Declaration) (tall : ℕ) (r : List Lexeme) (l n m : ℕ) → length (us ++ u ∷ r) < m
+    → Turns (declarations_from (tree d) has m found tall (inp (us ++ u ∷ r) l n)) (value_height v) (λ m. declarations_from (tree d) has m (found ++ declared t v ∷ []) (max tall (value_height v)) (inp r u.to n)) r
 unfolding declarations_from
 declaration_before_comma h u c found tall r l n zero far = absurd (omega arith)
-declaration_before_comma {d} {us} {t} {v} h u c found tall r l n (suc m) far = record {
+declaration_before_comma {has} {d} {us} {t} {v} h u c found tall r l n (suc m) far = record {
   turns = m;
   enough = omega (arith, far, length-append us (u ∷ r));
-  gets = gets_to (gets_then (declaration_goes h (u ∷ r) l n (omega (arith, ap (λ a. looseness u.line_before a) c))) (after_one d m found tall))
-      (eat_yes k.Comma u r (end_after l us) n c comma_self (λ more. if more then declarations_from (tree d) m (found ++ declared t v ∷ []) (max tall (value_height v)) else pure (found ++ declared t v ∷ [], max tall (value_height v))));
+  gets = gets_to (gets_then (declaration_goes h (u ∷ r) l n (omega (arith, ap (λ a. looseness has u.line_before a) c))) (after_one has d m found tall))
+      (eat_yes k.Comma u r (end_after l us) n c comma_self (λ more. if more then declarations_from (tree d) has m (found ++ declared t v ∷ []) (max tall (value_height v)) else pure (found ++ declared t v ∷ [], max tall (value_height v))));
 }
 
-declaration_at_end : {d : ℕ} {us : List Lexeme} {t : Lexeme} {v : Option Grown} → Declares d us t v → (found : List Declaration) (tall : ℕ) (r : List Lexeme) (l n m : ℕ) → 0 < m → EndsExpression r
-    → Gets (declarations_from (tree d) m found tall (inp (us ++ r) l n)) (value_height v) (Ok ((found ++ declared t v ∷ [], max tall (value_height v)), inp r (end_after l us) n))
+declaration_at_end : {has : Bool} {d : ℕ} {us : List Lexeme} {t : Lexeme} {v : Option Grown} → Declares has d us t v → (found : List Declaration) (tall : ℕ) (r : List Lexeme) (l n m : ℕ) → 0 < m → EndsExpression has r
+    → Gets (declarations_from (tree d) has m found tall (inp (us ++ r) l n)) (value_height v) (Ok ((found ++ declared t v ∷ [], max tall (value_height v)), inp r (end_after l us) n))
 unfolding declarations_from
 declaration_at_end h found tall r l n zero far e = absurd (omega arith)
-declaration_at_end {d} {us} {t} {v} h found tall r l n (suc m) far e =
-    gets_to (gets_then (declaration_goes h r l n (looser 15 16 (omega arith) r e)) (after_one d m found tall))
-    (eat_no k.Comma r (end_after l us) n (not_sort k.Comma 16 comma_other (λ line. omega arith) r e) (λ more. if more then declarations_from (tree d) m (found ++ declared t v ∷ []) (max tall (value_height v)) else pure (found ++ declared t v ∷ [], max tall (value_height v))))
+declaration_at_end {has} {d} {us} {t} {v} h found tall r l n (suc m) far e =
+    gets_to (gets_then (declaration_goes h r l n (looser has 15 16 (omega arith) r e)) (after_one has d m found tall))
+    (eat_no k.Comma r (end_after l us) n (not_sort has k.Comma 16 comma_other (λ line. omega arith) r e) (λ more. if more then declarations_from (tree d) has m (found ++ declared t v ∷ []) (max tall (value_height v)) else pure (found ++ declared t v ∷ [], max tall (value_height v))))
 
-record DeclarationsClaim (d : ℕ) (us : List Lexeme) (ds : List Declaration) (tall : ℕ) : Type 0 where
+record DeclarationsClaim (has : Bool) (d : ℕ) (us : List Lexeme) (ds : List Declaration) (tall : ℕ) : Type 0 where
   by_comma : (u : Lexeme) → u.sort ≡ k.Comma → (r : List Lexeme) (l n m : ℕ) → length (us ++ u ∷ r) < m
-      → Turns (declarations_from (tree d) m [] 0 (inp (us ++ u ∷ r) l n)) tall (λ m. declarations_from (tree d) m ds tall (inp r u.to n)) r
-  by_end : (r : List Lexeme) (l n m : ℕ) → length (us ++ r) < m → EndsExpression r → Gets (declarations_from (tree d) m [] 0 (inp (us ++ r) l n)) tall (Ok ((ds, tall), inp r (end_after l us) n))
+      → Turns (declarations_from (tree d) has m [] 0 (inp (us ++ u ∷ r) l n)) tall (λ m. declarations_from (tree d) has m ds tall (inp r u.to n)) r
+  by_end : (r : List Lexeme) (l n m : ℕ) → length (us ++ r) < m → EndsExpression has r → Gets (declarations_from (tree d) has m [] 0 (inp (us ++ r) l n)) tall (Ok ((ds, tall), inp r (end_after l us) n))
 
 zero_max : (a : ℕ) → a ≡ max 0 a
 zero_max a = omega arith
 
-declarations_go : {d tall : ℕ} {us : List Lexeme} {ds : List Declaration} → Declarations d us ds tall → DeclarationsClaim d us ds tall
-declarations_go {d} (one_declaration {us} {t} {value = v} h) = record {
+declarations_go : {has : Bool} {d tall : ℕ} {us : List Lexeme} {ds : List Declaration} → Declarations has d us ds tall → DeclarationsClaim has d us ds tall
+declarations_go {has} {d} (one_declaration {us} {t} {value = v} h) = record {
   by_comma = λ u c r l n m far. let s = declaration_before_comma h u c [] 0 r l n m far in record { turns = s.turns; enough = s.enough; gets = gets_at (value_height v) (max 0 (value_height v)) (zero_max (value_height v)) s.gets };
   by_end = λ r l n m far e. gets_at (value_height v) (max 0 (value_height v)) (zero_max (value_height v)) (declaration_at_end h [] 0 r l n m (omega (arith, far)) e);
 }
-declarations_go {d} (one_more_declaration {tall} {us} {vs} {u} {ds} {value = v} w t c h) = record {
+declarations_go {has} {d} (one_more_declaration {tall} {us} {vs} {u} {ds} {value = v} w t c h) = record {
   by_comma = λ q p r l n m far.
       let s = (declarations_go w).by_comma t c (vs ++ q ∷ r) l n m (subst (λ zs. length zs < m) (append_assoc us (t ∷ vs) (q ∷ r)) far) in
       let one = declaration_before_comma h q p ds tall r t.to n s.turns s.enough in
       record {
         turns = one.turns;
         enough = one.enough;
-        gets = subst (λ zs. Gets (declarations_from (tree d) m [] 0 (inp zs l n)) (max tall (value_height v)) (declarations_from (tree d) one.turns (ds ++ declared u v ∷ []) (max tall (value_height v)) (inp r q.to n))) (sym (append_assoc us (t ∷ vs) (q ∷ r)))
+        gets = subst (λ zs. Gets (declarations_from (tree d) has m [] 0 (inp zs l n)) (max tall (value_height v)) (declarations_from (tree d) has one.turns (ds ++ declared u v ∷ []) (max tall (value_height v)) (inp r q.to n))) (sym (append_assoc us (t ∷ vs) (q ∷ r)))
             (gets_max tall (value_height v) s.gets one.gets);
       };
   by_end = λ r l n m far e.
       let s = (declarations_go w).by_comma t c (vs ++ r) l n m (subst (λ zs. length zs < m) (append_assoc us (t ∷ vs) r) far) in
       let last = declaration_at_end h ds tall r t.to n s.turns (omega (arith, s.enough)) e in
-      subst (λ zs. Gets (declarations_from (tree d) m [] 0 (inp zs l n)) (max tall (value_height v)) (Ok ((ds ++ declared u v ∷ [], max tall (value_height v)), inp r (end_after l (us ++ t ∷ vs)) n))) (sym (append_assoc us (t ∷ vs) r))
+      subst (λ zs. Gets (declarations_from (tree d) has m [] 0 (inp zs l n)) (max tall (value_height v)) (Ok ((ds ++ declared u v ∷ [], max tall (value_height v)), inp r (end_after l (us ++ t ∷ vs)) n))) (sym (append_assoc us (t ∷ vs) r))
       (gets_max tall (value_height v) s.gets (gets_to last (ap (λ a. Ok ((ds ++ declared u v ∷ [], max tall (value_height v)), inp r a n)) (end_at l us vs t))));
 }
 
-declarations_whole : {d tall : ℕ} {us : List Lexeme} {ds : List Declaration} → Declarations d us ds tall → (r : List Lexeme) (l n : ℕ) → EndsExpression r → Gets (declarations (tree d) (inp (us ++ r) l n)) tall (Ok ((ds, tall), inp r (end_after l us) n))
+declarations_whole : {has : Bool} {d tall : ℕ} {us : List Lexeme} {ds : List Declaration} → Declarations has d us ds tall → (r : List Lexeme) (l n : ℕ) → EndsExpression has r → Gets (declarations (tree d) has (inp (us ++ r) l n)) tall (Ok ((ds, tall), inp r (end_after l us) n))
 unfolding declarations left
-declarations_whole {us} w r l n e = (declarations_go w).by_end r l n (length (us ++ r) + 1) (omega arith) e
+declarations_whole {us = us} w r l n e = (declarations_go w).by_end r l n (length (us ++ r) + 1) (omega arith) e
 
-var_reads : (d tall : ℕ) (us vs ts : List Lexeme) (ds : List Declaration) (t : Lexeme) → t.sort ≡ k.Var → Declarations d us ds tall → Semicolon vs ts
+var_reads : (d tall : ℕ) (us vs ts : List Lexeme) (ds : List Declaration) (t : Lexeme) → t.sort ≡ k.Var → Declarations true d us ds tall → Semicolon vs ts
     → StateClaim d (t ∷ (us ++ vs)) ts (whole (node.Var ds) t.from (t ∷ (us ++ vs)) tall)
 unfolding var_ next
 var_reads d tall us vs ts ds t c w e l n clear =
@@ -285,8 +256,8 @@ var_reads d tall us vs ts ds t c w e l n clear =
     let f : (List Declaration × ℕ) → Parser Grown = λ all. semicolon >>= (λ u. complete (node.Var all.0) t.from all.1) in
     let one = declarations_whole w (vs ++ ts) t.to n (semicolon_ends e clear_) in
     let goes = ap (λ o. and_then o (λ u. complete (node.Var ds) t.from tall)) (semicolon_goes e (end_after t.to us) n) in
-    gets_is (and_then (declarations (tree d) (inp ((us ++ vs) ++ ts) t.to n)) f) (statement_is d t ((us ++ vs) ++ ts) l n k.Var c)
-    (subst (λ zs. Gets (and_then (declarations (tree d) (inp zs t.to n)) f) (tall + 1) (done (whole (node.Var ds) t.from (t ∷ (us ++ vs)) tall) (inp ts (end_after t.to (us ++ vs)) n))) (sym split)
+    gets_is (and_then (declarations (tree d) true (inp ((us ++ vs) ++ ts) t.to n)) f) (statement_is d t ((us ++ vs) ++ ts) l n k.Var c)
+    (subst (λ zs. Gets (and_then (declarations (tree d) true (inp zs t.to n)) f) (tall + 1) (done (whole (node.Var ds) t.from (t ∷ (us ++ vs)) tall) (inp ts (end_after t.to (us ++ vs)) n))) (sym split)
     (gets_move (λ a b. done (ending (node.Var ds) t.from a tall) (inp ts b n)) (end_after (end_after t.to us) vs) (end_after t.to (us ++ vs)) (end_after t.to (us ++ vs)) (sym (end_append t.to us vs)) (sym (end_append t.to us vs))
     (gets_trans tall (tall + 1) (omega arith) (gets_then one f)
     (gets_is (complete (node.Var ds) t.from tall (inp ts (end_after (end_after t.to us) vs) n)) goes (gets_whole (node.Var ds) t.from tall ts (end_after (end_after t.to us) vs) n)))))
@@ -477,7 +448,7 @@ do_ended_reads d us vs ts x y t u v c h q i e l n clear =
 
 -- ---- `for`
 
-no_var : {d : ℕ} {us : List Lexeme} {p : Part} → Perhaps d k.Semicolon us p → (r : List Lexeme) → same_sort (sort_at (us ++ r)) k.Var ≡ false
+no_var : {b : Bool} {d : ℕ} {us : List Lexeme} {p : Part} → Perhaps b d k.Semicolon us p → (r : List Lexeme) → same_sort (sort_at (us ++ r)) k.Var ≡ false
 unfolding same_sort
 no_var (no_expression u c) r = ap (λ a. same_sort a k.Var) c
 no_var (an_expression {us} h u c) r = subst (λ zs. same_sort (sort_at zs) k.Var ≡ false) (sym (append_assoc us (u ∷ []) r)) (not_close k.Var (sort_at (us ++ u ∷ r)) refl (starts h (u ∷ r)))
@@ -488,17 +459,17 @@ first_goes {d} (first_var {tall} {us} {ds} t c w u q) r l n =
     let split : (us ++ u ∷ []) ++ r ≡ us ++ u ∷ r = append_assoc us (u ∷ []) r in
     let f : (List Declaration × ℕ) → Parser Grown = λ all. expect k.Semicolon >>= (λ v. complete (node.Var all.0) t.from all.1) in
     let z : Grown = whole (node.Var ds) t.from (t ∷ (us ++ u ∷ [])) tall in
-    let one = declarations_whole w (u ∷ r) t.to n (loose u k.Semicolon q (λ line. omega arith) r) in
-    let var_ : Gets (and_then (declarations (tree d) (inp (us ++ u ∷ r) t.to n)) f) (tall + 1) (done z (inp r (end_after t.to (us ++ u ∷ [])) n)) =
+    let one = declarations_whole w (u ∷ r) t.to n (loose false u k.Semicolon q (λ line. omega arith) r) in
+    let var_ : Gets (and_then (declarations (tree d) false (inp (us ++ u ∷ r) t.to n)) f) (tall + 1) (done z (inp r (end_after t.to (us ++ u ∷ [])) n)) =
     gets_move (λ a b. done (ending (node.Var ds) t.from a tall) (inp r b n)) u.to (end_after t.to (us ++ u ∷ [])) (end_after t.to (us ++ u ∷ [])) (end_at t.to us [] u) (end_at t.to us [] u)
     (gets_trans tall (tall + 1) (omega arith) (gets_then one f)
     (gets_is (complete (node.Var ds) t.from tall (inp r u.to n)) (expect_goes k.Semicolon u r (end_after t.to us) n q semicolon_self (λ v. complete (node.Var ds) t.from tall)) (gets_whole (node.Var ds) t.from tall r u.to n))) in
-    gets_is (and_then (and_then (declarations (tree d) (inp ((us ++ u ∷ []) ++ r) t.to n)) f) (λ x. pure (part_of x)))
-    (eat_yes k.Var t ((us ++ u ∷ []) ++ r) l n c var_self (λ b. if b then ((declarations (tree d) >>= f) >>= (λ x. pure (part_of x))) else perhaps (tree d) k.Semicolon))
-    (subst (λ zs. Gets (and_then (and_then (declarations (tree d) (inp zs t.to n)) f) (λ x. pure (part_of x))) (tall + 1) (Ok (part_of z, inp r (end_after t.to (us ++ u ∷ [])) n))) (sym split)
+    gets_is (and_then (and_then (declarations (tree d) false (inp ((us ++ u ∷ []) ++ r) t.to n)) f) (λ x. pure (part_of x)))
+    (eat_yes k.Var t ((us ++ u ∷ []) ++ r) l n c var_self (λ b. if b then ((declarations (tree d) false >>= f) >>= (λ x. pure (part_of x))) else perhaps (tree d) false k.Semicolon))
+    (subst (λ zs. Gets (and_then (and_then (declarations (tree d) false (inp zs t.to n)) f) (λ x. pure (part_of x))) (tall + 1) (Ok (part_of z, inp r (end_after t.to (us ++ u ∷ [])) n))) (sym split)
     (gets_then var_ (λ x. pure (part_of x))))
 first_goes {d} {us} {p} (first_expression h) r l n =
-    gets_is (perhaps (tree d) k.Semicolon (inp (us ++ r) l n)) (eat_no k.Var (us ++ r) l n (no_var h r) (λ b. if b then ((declarations (tree d) >>= (λ all. expect k.Semicolon >>= (λ v. complete (node.Var all.0) (place_at n (us ++ r)) all.1))) >>= (λ x. pure (part_of x))) else perhaps (tree d) k.Semicolon))
+    gets_is (perhaps (tree d) false k.Semicolon (inp (us ++ r) l n)) (eat_no k.Var (us ++ r) l n (no_var h r) (λ b. if b then ((declarations (tree d) false >>= (λ all. expect k.Semicolon >>= (λ v. complete (node.Var all.0) (place_at n (us ++ r)) all.1))) >>= (λ x. pure (part_of x))) else perhaps (tree d) false k.Semicolon))
     (perhaps_goes h semicolon_self refl (λ line. omega arith) r l n)
 
 for_heights : (a b c e : ℕ) → max a (max b (max c (max e (max a (tallest b c e) + 1)))) ≡ max a (tallest b c e) + 1
@@ -506,7 +477,7 @@ unfolding tallest
 for_heights a b c e = omega arith
 
 for_reads : (d : ℕ) (us vs ws zs ts : List Lexeme) (first test step : Part) (y : Grown) (t u : Lexeme) → t.sort ≡ k.For → u.sort ≡ k.LeftParenthesis
-    → First (suc d) us first → Perhaps (suc d) k.Semicolon vs test → Perhaps (suc d) k.RightParenthesis ws step → StateClaim d zs ts y
+    → First (suc d) us first → Perhaps true (suc d) k.Semicolon vs test → Perhaps true (suc d) k.RightParenthesis ws step → StateClaim d zs ts y
     → StateClaim (suc d) (t ∷ u ∷ (us ++ (vs ++ (ws ++ zs)))) ts
     (whole (node.For first.tree test.tree step.tree y.tree) t.from (t ∷ u ∷ (us ++ (vs ++ (ws ++ zs)))) (max first.height (tallest test.height step.height y.height)))
 unfolding for_ for_rest for_body next tree
@@ -522,7 +493,7 @@ for_reads d us vs ws zs ts first test step y t u c e f p q h l n clear =
     let l4 = end_after l3 zs in
     let close : Grown → Parser Grown = λ y. complete (node.For first.tree test.tree step.tree y.tree) t.from (max first.height (tallest test.height step.height y.height)) in
     let by_step : Part → Parser Grown = λ step. for_body (tree (suc d)) t.from first test step in
-    let by_test : Part → Parser Grown = λ test. perhaps (tree (suc d)) k.RightParenthesis >>= (λ step. for_body (tree (suc d)) t.from first test step) in
+    let by_test : Part → Parser Grown = λ test. perhaps (tree (suc d)) true k.RightParenthesis >>= (λ step. for_body (tree (suc d)) t.from first test step) in
     let by_first : Part → Parser Grown = λ first. for_rest (tree (suc d)) t.from first in
     let last = gets_max y.height (tall + 1) (gets_then (h l3 n clear_) close) (gets_whole nd t.from tall ts l4 n) in
     let third = gets_max step.height (max y.height (tall + 1)) (gets_then (perhaps_goes q right_self refl (λ line. omega arith) (zs ++ ts) l2 n) by_step) last in

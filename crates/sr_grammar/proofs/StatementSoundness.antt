@@ -3,19 +3,18 @@ use Rattle.std.proofs.Common.{◌≡◌, ℕ, zero, suc, ◌+◌, ◌≤◌, ◌
 use Rattle.sr_ast.specs.declared.tree.Node.{Node}
 use Rattle.sr_ast.specs.declared.tree.Node.TheVariants as node
 use Rattle.sr_ast.specs.declared.tree.Declaration.{Declaration, roll-Declaration}
-use Rattle.sr_parse.specs.declared.sorts.Sort.TheVariants as k
-use Rattle.sr_parse.specs.declared.sorts.Sort.{Sort}
-use Rattle.sr_parse.specs.declared.sorts.Lexeme.{Lexeme}
-use Rattle.sr_parse.specs.declared.grown.Grown.{Grown}
-use Rattle.sr_parse.specs.declared.grown.Grove.{Grove}
-use Rattle.sr_parse.specs.declared.grown.Part.{Part}
-use Rattle.sr_parse.specs.declared.grown.Goal.TheVariants as goal
-use Rattle.sr_parse.specs.declared.refusal.Refusal.TheVariants.{Memory, Syntax, TooDeep}
-use Rattle.sr_parse.specs.Sorts.{same_sort}
-use Rattle.sr_parse.specs.Input.{Input, Outcome, Parser, ◌>>=◌, and_then, pure, refuse, eat, sees, after, sort, sort_at, line_before, line_at, place, left, max_depth, text, text_of, next, take_token, take_text, semicolon, start, place_at}
-use Rattle.sr_parse.specs.Grammar.{expression, tree, none, with, from_of, nothing, part_of, tallest, name, items_from, items, block, condition, if_else, if_, do_while, do_, while_, declaration, declarations_from, declarations, var_, for_var, perhaps, for_first, for_body, for_rest, for_, plain, statement_by, statement}
-use Rattle.sr_grammar.specs.Derivations.{Symbol, Derives, Lists, Arguments, Expression, Assign, end_after, whole}
-use Rattle.sr_grammar.specs.Derivations as g
+use Rattle.sr_syntax.specs.declared.sorts.Sort.TheVariants as k
+use Rattle.sr_syntax.specs.declared.sorts.Sort.{Sort}
+use Rattle.sr_syntax.specs.declared.sorts.Lexeme.{Lexeme}
+use Rattle.sr_syntax.specs.declared.grown.Grown.{Grown}
+use Rattle.sr_syntax.specs.declared.grown.Grove.{Grove}
+use Rattle.sr_syntax.specs.declared.grown.Part.{Part}
+use Rattle.sr_syntax.specs.declared.grown.Goal.TheVariants as goal
+use Rattle.sr_syntax.specs.declared.refusal.Refusal.TheVariants.{Memory, Syntax, TooDeep}
+use Rattle.sr_syntax.specs.Sorts.{same_sort}
+use Rattle.sr_syntax.specs.Input.{Input, Outcome, Parser, ◌>>=◌, and_then, pure, refuse, eat, sees, after, sort, sort_at, line_before, line_at, place, left, max_depth, text, text_of, next, take_token, take_text, semicolon, start, place_at}
+use Rattle.sr_syntax.specs.Grammar.{statement_node, expression, tree, none, with, from_of, nothing, part_of, tallest, name, items_from, items, block, condition, if_else, if_, do_while, do_, while_, declaration, declarations_from, declarations, var_, for_var, perhaps, for_first, for_body, for_rest, for_, plain, statement_by, statement}
+use Rattle.sr_grammar.specs.Derivations.{Derives, Expression, Assign, end_after, start_of, whole}
 use Rattle.sr_grammar.specs.Stopping.{Stops}
 use Rattle.sr_grammar.specs.Statements.{Semicolon, written, before_brace, before_line, declared, value_height, Declares, no_value, a_value, Declarations, one_declaration, one_more_declaration, Condition, Perhaps, no_expression, an_expression, First, first_var, first_expression, States, Items, no_items, one_more_item}
 use Rattle.sr_grammar.specs.Statements as s
@@ -23,6 +22,7 @@ use Rattle.sr_grammar.specs.Laws.{SoundStatement, MoreOpenStatement}
 use Rattle.sr_grammar.proofs.Steps.{inp, Fact, Fault, Need, Any, Parses, Both, both, Either, Never, Nowhere, Pure, Looked, looked, Taken, taken, Eaten, ate, absent, Expected, expected, Here, Chosen, yes, no, Runs, stop, go, Breaks, map, map_given, given, then_any, bind, look, take, Shallow, Some_left, At, by_first, sort_shallow, place_shallow, eaten, expecting, purely, refused, choose, choose_any, turns, finish, pred, not_both, done, ending, end_append, head, sort_alike, line_alike, refusal, refusal_is, deep_memory, fault_at}
 use Rattle.sr_grammar.proofs.Steps as steps
 use Rattle.sr_grammar.proofs.Facts.{Derived, derived, Opened, opened, Mapped, mapped, mapping, Closed, closed, closing}
+use Rattle.sr_grammar.proofs.Starting.{some_tokens, end_some}
 use Rattle.sr_grammar.proofs.Lists.{expressions, no_left, no_right, same_left, same_right, assoc}
 use Rattle.sr_grammar.proofs.Sides.{unit_of, unit_shallow}
 use Rattle.sr_grammar.proofs.Assigns.{nests, opened_again}
@@ -66,39 +66,6 @@ if_at P Q false i = refl
 
 -- ---- some tokens
 
-mutual
-  pub some_tokens : {d : ℕ} {s : Symbol} {us : List Lexeme} {x : Grown} → Derives d s us x → 0 < length us
-  some_tokens (g.single h) = some_tokens h
-  some_tokens (g.sequence {us} {vs} h t c i) = omega (arith, length-append us (t ∷ vs))
-  some_tokens (g.unassigned h) = some_tokens h
-  some_tokens (g.assigned {us} {vs} h is t c i) = omega (arith, length-append us (t ∷ vs))
-  some_tokens (g.unchosen h) = some_tokens h
-  some_tokens (g.chosen {us} {vs} {ws} h t c i u e j) = omega (arith, length-append us (t ∷ (vs ++ u ∷ ws)))
-  some_tokens (g.logical h) = some_tokens h
-  some_tokens (g.coalesced h) = some_tokens h
-  some_tokens (g.coalesce {us} {vs} h t c i) = omega (arith, length-append us (t ∷ vs))
-  some_tokens (g.head_more h) = some_tokens h
-  some_tokens (g.head_first h) = some_tokens h
-  some_tokens (g.operand h) = some_tokens h
-  some_tokens (g.tighter h) = some_tokens h
-  some_tokens (g.binary {us} {vs} h t c i) = omega (arith, length-append us (t ∷ vs))
-  some_tokens (g.unraised h) = some_tokens h
-  some_tokens (g.raised {us} {vs} h t c i) = omega (arith, length-append us (t ∷ vs))
-  some_tokens (g.unary c h) = omega arith
-  some_tokens (g.no_operator h) = some_tokens h
-  some_tokens (g.before c h is) = omega arith
-  some_tokens (g.after {us} h is t c l) = omega (arith, length-append us (t ∷ []))
-  some_tokens (g.no_step h) = some_tokens h
-  some_tokens (g.uncalled h) = some_tokens h
-  some_tokens (g.called {us} {vs} h t c a) = omega (arith, length-append us (t ∷ vs))
-  some_tokens (g.name c) = omega arith
-  some_tokens (g.null c) = omega arith
-  some_tokens (g.true_literal c) = omega arith
-  some_tokens (g.false_literal c) = omega arith
-  some_tokens (g.number c) = omega arith
-  some_tokens (g.text c) = omega arith
-  some_tokens (g.parenthesized c h u e) = omega arith
-
 pub some_of_statement : {d : ℕ} {us ts : List Lexeme} {x : Grown} → States d us ts x → 0 < length us
 some_of_statement (s.expression_statement {us} {vs} h e c) = omega (arith, some_tokens h, length-append us vs)
 some_of_statement (s.block t c u e i) = omega arith
@@ -110,10 +77,6 @@ some_of_statement (s.do_alone t c u h e i j) = omega arith
 some_of_statement (s.do_ended t c u v h e i j) = omega arith
 some_of_statement (s.while t c i h) = omega arith
 some_of_statement (s.for t u c e f p q h) = omega arith
-
-pub end_some : (l m : ℕ) (us : List Lexeme) → 0 < length us → end_after l us ≡ end_after m us
-end_some l m [] h = absurd (omega arith)
-end_some l m (t ∷ us) h = refl
 
 -- ---- what a statement is read as
 
@@ -133,11 +96,11 @@ completed_state {d} {l} {n} {from} {tall} {us} {ts} {nd} {x} fits is at h =
 -- ---- expressions, as far as they go
 
 data Entire (d l n : ℕ) (us ts : List Lexeme) (x : Grown) : Type 0 where
-  entire : Derives d Expression us x → Stops us ts → Entire d l n us ts x
+  entire : Derives d (Expression true) us x → Stops us ts → Entire d l n us ts x
 
-entires : (d : ℕ) → Parses (λ e. expression (tree e)) d Any (Entire d) Whatever
+entires : (d : ℕ) → Parses (λ e. expression (tree e) true) d Any (Entire d) Whatever
 entires d = record {
-  reads = λ l n all x j m h. let r = (expressions d (nests d)).reads l n all x j m h in record {
+  reads = λ l n all x j m h. let r = (expressions true d (nests d)).reads l n all x j m h in record {
     us = r.us;
     ts = r.ts;
     split = r.split;
@@ -145,8 +108,8 @@ entires d = record {
     fact = elim r.fact [ derived h b ↦ entire h (stops d l n r.us r.ts x r.again) ];
     again = r.again;
   };
-  fails = λ l n all place m h. let r = (whatever (expressions d (nests d))).fails l n all place m h in r;
-  safe = (expressions d (nests d)).safe;
+  fails = λ l n all place m h. let r = (whatever (expressions true d (nests d))).fails l n all place m h in r;
+  safe = (expressions true d (nests d)).safe;
 }
 
 -- ---- semicolons
@@ -217,30 +180,30 @@ data Conditional (d l n : ℕ) (us ts : List Lexeme) (x : Grown) : Type 0 where
   conditional : Condition d us x → Conditional d l n us ts x
 
 condition_fact : {d l n : ℕ} {us ts : List Lexeme} {x : Grown}
-    → Both (Expected k.LeftParenthesis) (λ u. Both (Derived d Expression) (λ x. Mapped (Expected k.RightParenthesis) (λ u. x))) l n us ts x → Conditional d l n us ts x
+    → Both (Expected k.LeftParenthesis) (λ u. Both (Derived d (Expression true)) (λ x. Mapped (Expected k.RightParenthesis) (λ u. x))) l n us ts x → Conditional d l n us ts x
 condition_fact {d} {l} {n} (both (expected t c) (both {us = us} (derived h b) (mapped v (expected {ts} u e) is))) =
     subst (λ y. Conditional d l n (t ∷ (us ++ u ∷ [])) ts y) (sym is) (conditional (s.condition t c h u e))
 
 conditions : (d : ℕ) → Parses (λ e. condition (tree e)) d Any (Conditional d) Whatever
 unfolding condition
 conditions d = says (λ l n us ts x r. condition_fact r)
-    (then_any (expecting k.LeftParenthesis other_left) (λ u. then_any (expressions d (nests d)) (λ x. mapping (expecting k.RightParenthesis other_right) (λ u. x))))
+    (then_any (expecting k.LeftParenthesis other_left) (λ u. then_any (expressions true d (nests d)) (λ x. mapping (expecting k.RightParenthesis other_right) (λ u. x))))
 
-data Maybe (d : ℕ) (close : Sort) (l n : ℕ) (us ts : List Lexeme) (x : Part) : Type 0 where
-  maybe : Perhaps d close us x → Maybe d close l n us ts x
+data Maybe (has : Bool) (d : ℕ) (close : Sort) (l n : ℕ) (us ts : List Lexeme) (x : Part) : Type 0 where
+  maybe : Perhaps has d close us x → Maybe has d close l n us ts x
 
-perhaps_fact : {d l n : ℕ} {close : Sort} {us ts : List Lexeme} {x : Part}
-    → Both (Eaten close) (λ b. Chosen b (Pure nothing) (Both (Derived d Expression) (λ x. Mapped (Expected close) (λ u. part_of x)))) l n us ts x → Maybe d close l n us ts x
-perhaps_fact {d} {l} {n} {close} (both (ate {ts} t c e) (yes f (steps.nothing is))) = subst (λ y. Maybe d close l n (t ∷ []) ts y) (sym is) (maybe (no_expression t c))
+perhaps_fact : {has : Bool} {d l n : ℕ} {close : Sort} {us ts : List Lexeme} {x : Part}
+    → Both (Eaten close) (λ b. Chosen b (Pure nothing) (Both (Derived d (Expression has)) (λ x. Mapped (Expected close) (λ u. part_of x)))) l n us ts x → Maybe has d close l n us ts x
+perhaps_fact {has} {d} {l} {n} {close} (both (ate {ts} t c e) (yes f (steps.nothing is))) = subst (λ y. Maybe has d close l n (t ∷ []) ts y) (sym is) (maybe (no_expression t c))
 perhaps_fact (both (ate t c e) (no f r)) = absurd (not_both e f)
 perhaps_fact (both (absent e o) (yes f r)) = absurd (not_both f e)
-perhaps_fact {d} {l} {n} {close} (both (absent e o) (no f (both {us = us} (derived h b) (mapped v (expected {ts} u c) is)))) =
-    subst (λ y. Maybe d close l n (us ++ u ∷ []) ts y) (sym is) (maybe (an_expression h u c))
+perhaps_fact {has} {d} {l} {n} {close} (both (absent e o) (no f (both {us = us} (derived h b) (mapped v (expected {ts} u c) is)))) =
+    subst (λ y. Maybe has d close l n (us ++ u ∷ []) ts y) (sym is) (maybe (an_expression h u c))
 
-perhapss : (d : ℕ) (close : Sort) → same_sort k.End close ≡ false → Parses (λ e. perhaps (tree e) close) d Any (Maybe d close) Whatever
+perhapss : (has : Bool) (d : ℕ) (close : Sort) → same_sort k.End close ≡ false → Parses (λ e. perhaps (tree e) has close) d Any (Maybe has d close) Whatever
 unfolding perhaps
-perhapss d close other = says (λ l n us ts x r. perhaps_fact r)
-    (then_any (eaten close other) (λ b. choose_any b (purely nothing) (then_any (expressions d (nests d)) (λ x. mapping (expecting close other) (λ u. part_of x)))))
+perhapss has d close other = says (λ l n us ts x r. perhaps_fact r)
+    (then_any (eaten close other) (λ b. choose_any b (purely nothing) (then_any (expressions has d (nests d)) (λ x. mapping (expecting close other) (λ u. part_of x)))))
 
 -- ---- declarations
 
@@ -276,8 +239,8 @@ other_assign : same_sort k.End k.Assign ≡ false
 unfolding same_sort
 other_assign = refl
 
-data Declared_one (d l n : ℕ) (us ts : List Lexeme) (p : Declaration × ℕ) : Type 0 where
-  declares : (t : Lexeme) (v : Option Grown) → Declares d us t v → p ≡ (declared t v, value_height v) → Declared_one d l n us ts p
+data Declared_one (has : Bool) (d l n : ℕ) (us ts : List Lexeme) (p : Declaration × ℕ) : Type 0 where
+  declares : (t : Lexeme) (v : Option Grown) → Declares has d us t v → p ≡ (declared t v, value_height v) → Declared_one has d l n us ts p
 
 abbrev pub given_value : List ℕ → ℕ → Grown → Declaration × ℕ
 given_value called from x = (roll-Declaration (record { name = called; from = from; value = Some x.tree }), x.height)
@@ -285,10 +248,10 @@ given_value called from x = (roll-Declaration (record { name = called; from = fr
 abbrev pub given_none : List ℕ → ℕ → Declaration × ℕ
 given_none called from = (roll-Declaration (record { name = called; from = from; value = None }), 0)
 
-abbrev DeclarationFact : ℕ → Fact (Declaration × ℕ)
-DeclarationFact d = Both (Looked place) (λ from. Both Named (λ called. Both (Eaten k.Assign) (λ b. Chosen b (Mapped (Opened Assign d) (λ x. given_value called from x)) (Pure (given_none called from)))))
+abbrev DeclarationFact : Bool → ℕ → Fact (Declaration × ℕ)
+DeclarationFact has d = Both (Looked place) (λ from. Both Named (λ called. Both (Eaten k.Assign) (λ b. Chosen b (Mapped (Opened (Assign has) d) (λ x. given_value called from x)) (Pure (given_none called from)))))
 
-declaration_fact : {d l n : ℕ} {us ts : List Lexeme} {p : Declaration × ℕ} → DeclarationFact d l n us ts p → Declared_one d l n us ts p
+declaration_fact : {has : Bool} {d l n : ℕ} {us ts : List Lexeme} {p : Declaration × ℕ} → DeclarationFact has d l n us ts p → Declared_one has d l n us ts p
 unfolding place
 declaration_fact (both {x = from} (looked e) (both (named t c i) (both (ate u q j) (yes f (mapped x (opened h b) is))))) =
     declares t (Some x) (a_value t u c q h) (is ∙ ap (λ a. given_value a from x) i ∙ ap (λ a. given_value (text_of t.content) a x) e)
@@ -297,11 +260,11 @@ declaration_fact (both (looked e) (both (named t c i) (both (absent j o) (yes f 
 declaration_fact (both {x = from} (looked e) (both (named t c i) (both (absent j o) (no f (steps.nothing is))))) =
     declares t None (no_value t c) (is ∙ ap (λ a. given_none a from) i ∙ ap (λ a. given_none (text_of t.content) a) e)
 
-declaration_parses : (d : ℕ) → Parses (λ e. declaration (tree e)) d Any (Declared_one d) Whatever
+declaration_parses : (has : Bool) (d : ℕ) → Parses (λ e. declaration (tree e) has) d Any (Declared_one has d) Whatever
 unfolding declaration
-declaration_parses d = says (λ l n us ts x r. declaration_fact r)
+declaration_parses has d = says (λ l n us ts x r. declaration_fact r)
     (then_any (look place place_shallow) (λ from. then_any (names d) (λ called. then_any (eaten k.Assign other_assign) (λ b.
-    choose_any b (mapping (nests d).assign (λ x. given_value called from x)) (purely (given_none called from))))))
+    choose_any b (mapping ((nests d).assign has) (λ x. given_value called from x)) (purely (given_none called from))))))
 
 -- what was found so far
 abbrev Declared : Type 0
@@ -313,78 +276,78 @@ more_of found x = (found.0 ++ x.0 ∷ [], max found.1 x.1)
 abbrev found_more : Declared → Bool → Parser (Declared ⊎ Declared)
 found_more all b = if b then (λ i. Ok (inl all, i)) else (λ i. Ok (inr all, i))
 
-abbrev declared_step : ℕ → Declared → Parser (Declared ⊎ Declared)
-declared_step e found = declaration (tree e) >>= (λ x. eat k.Comma >>= (λ more. if more then (λ i. Ok (inl (more_of found x), i)) else (λ i. Ok (inr (more_of found x), i))))
+abbrev declared_step : Bool → ℕ → Declared → Parser (Declared ⊎ Declared)
+declared_step has e found = declaration (tree e) has >>= (λ x. eat k.Comma >>= (λ more. if more then (λ i. Ok (inl (more_of found x), i)) else (λ i. Ok (inr (more_of found x), i))))
 
-data OneDeclaration (d : ℕ) (found : Declared) (l n : ℕ) : List Lexeme → List Lexeme → Declared ⊎ Declared → Type 0 where
-  and_more : {us ts : List Lexeme} {o : Declared ⊎ Declared} (t : Lexeme) (v : Option Grown) → Declares d us t v → (u : Lexeme) → u.sort ≡ k.Comma
-      → o ≡ inl (more_of found (declared t v, value_height v)) → OneDeclaration d found l n (us ++ u ∷ []) ts o
-  the_last : {us ts : List Lexeme} {o : Declared ⊎ Declared} (t : Lexeme) (v : Option Grown) → Declares d us t v
-      → o ≡ inr (more_of found (declared t v, value_height v)) → OneDeclaration d found l n us ts o
+data OneDeclaration (has : Bool) (d : ℕ) (found : Declared) (l n : ℕ) : List Lexeme → List Lexeme → Declared ⊎ Declared → Type 0 where
+  and_more : {us ts : List Lexeme} {o : Declared ⊎ Declared} (t : Lexeme) (v : Option Grown) → Declares has d us t v → (u : Lexeme) → u.sort ≡ k.Comma
+      → o ≡ inl (more_of found (declared t v, value_height v)) → OneDeclaration has d found l n (us ++ u ∷ []) ts o
+  the_last : {us ts : List Lexeme} {o : Declared ⊎ Declared} (t : Lexeme) (v : Option Grown) → Declares has d us t v
+      → o ≡ inr (more_of found (declared t v, value_height v)) → OneDeclaration has d found l n us ts o
 
-one_declaration_fact : {d l n : ℕ} {us ts : List Lexeme} {o : Declared ⊎ Declared} {found : Declared}
-    → Both (Declared_one d) (λ x. Both (Eaten k.Comma) (λ b. Chosen b (Pure (inl (more_of found x))) (Pure (inr (more_of found x))))) l n us ts o → OneDeclaration d found l n us ts o
-one_declaration_fact {found} (both (declares t v h e) (both (ate u c i) (yes f (steps.nothing is)))) = and_more t v h u c (is ∙ ap (λ p. inl (more_of found p)) e)
+one_declaration_fact : {has : Bool} {d l n : ℕ} {us ts : List Lexeme} {o : Declared ⊎ Declared} {found : Declared}
+    → Both (Declared_one has d) (λ x. Both (Eaten k.Comma) (λ b. Chosen b (Pure (inl (more_of found x))) (Pure (inr (more_of found x))))) l n us ts o → OneDeclaration has d found l n us ts o
+one_declaration_fact {found = found} (both (declares t v h e) (both (ate u c i) (yes f (steps.nothing is)))) = and_more t v h u c (is ∙ ap (λ p. inl (more_of found p)) e)
 one_declaration_fact (both (declares t v h e) (both (ate u c i) (no f r))) = absurd (not_both i f)
 one_declaration_fact (both (declares t v h e) (both (absent i o) (yes f r))) = absurd (not_both f i)
-one_declaration_fact {d} {l} {n} {found = found} (both {us = us} {ts = ts} {y = o} (declares t v h e) (both (absent i p) (no f (steps.nothing is)))) =
-    subst (λ zs. OneDeclaration d found l n zs ts o) (sym (append-nil us)) (the_last t v h (is ∙ ap (λ p. inr (more_of found p)) e))
+one_declaration_fact {has} {d} {l} {n} {found = found} (both {us = us} {ts = ts} {y = o} (declares t v h e) (both (absent i p) (no f (steps.nothing is)))) =
+    subst (λ zs. OneDeclaration has d found l n zs ts o) (sym (append-nil us)) (the_last t v h (is ∙ ap (λ p. inr (more_of found p)) e))
 
-module _ (d : ℕ) where
+module _ (has : Bool) (d : ℕ) where
   abbrev declared_again : ℕ → ℕ → Declared ⊎ Declared → Parser Declared
-  declared_again = finish (λ m e found. declarations_from (tree e) m found.0 found.1) declared_step 1 d (OneDeclaration d) (λ found. Whatever)
+  declared_again = finish (λ m e found. declarations_from (tree e) has m found.0 found.1) (declared_step has) 1 d (OneDeclaration has d) (λ found. Whatever)
 
-  declared_steps : (found : Declared) → Parses (λ e. declared_step e found) d Any (OneDeclaration d found) Whatever
+  declared_steps : (found : Declared) → Parses (λ e. declared_step has e found) d Any (OneDeclaration has d found) Whatever
   declared_steps found = says (λ l n us ts x r. one_declaration_fact r)
-      (then_any (declaration_parses d) (λ x. then_any (eaten k.Comma other_comma) (λ b. choose_any b (purely (inl (more_of found x))) (purely (inr (more_of found x))))))
+      (then_any (declaration_parses has d) (λ x. then_any (eaten k.Comma other_comma) (λ b. choose_any b (purely (inl (more_of found x))) (purely (inr (more_of found x))))))
 
   declared_turn : (m e : ℕ) (found : Declared) (o : Outcome (Declaration × ℕ))
-      → and_then o (λ x. eat k.Comma >>= (λ more. if more then declarations_from (tree e) m (found.0 ++ x.0 ∷ []) (max found.1 x.1) else pure (found.0 ++ x.0 ∷ [], max found.1 x.1)))
+      → and_then o (λ x. eat k.Comma >>= (λ more. if more then declarations_from (tree e) has m (found.0 ++ x.0 ∷ []) (max found.1 x.1) else pure (found.0 ++ x.0 ∷ [], max found.1 x.1)))
       ≡ and_then (and_then o (λ x. eat k.Comma >>= (λ more. if more then (λ i. Ok (inl (more_of found x), i)) else (λ i. Ok (inr (more_of found x), i))))) (declared_again m e)
   declared_turn m e found (Ok p) = choice (sees k.Comma p.1) (after k.Comma p.1)
     where
-      choice : (b : Bool) (i : Input) → (if b then declarations_from (tree e) m (found.0 ++ p.0.0 ∷ []) (max found.1 p.0.1) else pure (found.0 ++ p.0.0 ∷ [], max found.1 p.0.1)) i
+      choice : (b : Bool) (i : Input) → (if b then declarations_from (tree e) has m (found.0 ++ p.0.0 ∷ []) (max found.1 p.0.1) else pure (found.0 ++ p.0.0 ∷ [], max found.1 p.0.1)) i
           ≡ and_then (found_more (more_of found p.0) b i) (declared_again m e)
       choice true i = refl
       choice false i = refl
   declared_turn m e found (Err r) = refl
 
   declared_unrolls : (m e : ℕ) (found : Declared) (all : List Lexeme) (l n : ℕ) → 1 + length all ≤ m
-      → declarations_from (tree e) m found.0 found.1 (inp all l n) ≡ and_then (declared_step e found (inp all l n)) (declared_again (pred m) e)
+      → declarations_from (tree e) has m found.0 found.1 (inp all l n) ≡ and_then (declared_step has e found (inp all l n)) (declared_again (pred m) e)
   unfolding declarations_from
   declared_unrolls zero e found all l n far = absurd (omega arith)
-  declared_unrolls (suc m) e found all l n far = declared_turn m e found (declaration (tree e) (inp all l n))
+  declared_unrolls (suc m) e found all l n far = declared_turn m e found (declaration (tree e) has (inp all l n))
 
-  declared_grows : (found y : Declared) (l n : ℕ) (us ts : List Lexeme) → OneDeclaration d found l n us ts (inl y) → 0 < length us
+  declared_grows : (found y : Declared) (l n : ℕ) (us ts : List Lexeme) → OneDeclaration has d found l n us ts (inl y) → 0 < length us
   declared_grows found y l n us ts h = some h refl
     where
-      some : {us ts : List Lexeme} {o : Declared ⊎ Declared} → OneDeclaration d found l n us ts o → o ≡ inl y → 0 < length us
+      some : {us ts : List Lexeme} {o : Declared ⊎ Declared} → OneDeclaration has d found l n us ts o → o ≡ inl y → 0 < length us
       some (and_more {us} t v h u c is) e = omega (arith, length-append us (u ∷ []))
       some (the_last t v h is) e = cc
 
-  declarationss : Parses (λ e. declarations (tree e)) d Any (Runs (OneDeclaration d) ([], 0)) Whatever
+  declarationss : Parses (λ e. declarations (tree e) has) d Any (Runs (OneDeclaration has d) ([], 0)) Whatever
   unfolding declarations left
-  declarationss = whatever (turns (λ m e found. declarations_from (tree e) m found.0 found.1) declared_step 1 d (OneDeclaration d) (λ found. Whatever)
+  declarationss = whatever (turns (λ m e found. declarations_from (tree e) has m found.0 found.1) (declared_step has) 1 d (OneDeclaration has d) (λ found. Whatever)
       declared_unrolls declared_steps declared_grows (λ i. left i + 1) (λ all l n. omega arith) ([], 0))
 
 -- what stands before the next declaration
-data DeclaredSoFar : ℕ → List Lexeme → Declared → Type 0 where
-  none_yet : {d : ℕ} → DeclaredSoFar d [] ([], 0)
-  comma_behind : {d : ℕ} {us : List Lexeme} {found : Declared} → Declarations d us found.0 found.1 → (t : Lexeme) → t.sort ≡ k.Comma → DeclaredSoFar d (us ++ t ∷ []) found
+data DeclaredSoFar (has : Bool) : ℕ → List Lexeme → Declared → Type 0 where
+  none_yet : {d : ℕ} → DeclaredSoFar has d [] ([], 0)
+  comma_behind : {d : ℕ} {us : List Lexeme} {found : Declared} → Declarations has d us found.0 found.1 → (t : Lexeme) → t.sort ≡ k.Comma → DeclaredSoFar has d (us ++ t ∷ []) found
 
-one_more_declared : {d : ℕ} {us : List Lexeme} {found : Declared} → DeclaredSoFar d us found → (vs : List Lexeme) (t : Lexeme) (v : Option Grown) → Declares d vs t v
-    → Declarations d (us ++ vs) (found.0 ++ declared t v ∷ []) (max found.1 (value_height v))
+one_more_declared : {has : Bool} {d : ℕ} {us : List Lexeme} {found : Declared} → DeclaredSoFar has d us found → (vs : List Lexeme) (t : Lexeme) (v : Option Grown) → Declares has d vs t v
+    → Declarations has d (us ++ vs) (found.0 ++ declared t v ∷ []) (max found.1 (value_height v))
 one_more_declared none_yet vs t v h = one_declaration h
-one_more_declared {d} (comma_behind {us} {found} w u c) vs t v h =
-    subst (λ zs. Declarations d zs (found.0 ++ declared t v ∷ []) (max found.1 (value_height v))) (sym (append_assoc us (u ∷ []) vs)) (one_more_declaration w u c h)
+one_more_declared {has} {d} (comma_behind {us} {found} w u c) vs t v h =
+    subst (λ zs. Declarations has d zs (found.0 ++ declared t v ∷ []) (max found.1 (value_height v))) (sym (append_assoc us (u ∷ []) vs)) (one_more_declaration w u c h)
 
-declared_runs : {d l n : ℕ} {us ts : List Lexeme} {found all : Declared} → Runs (OneDeclaration d) found l n us ts all → (vs : List Lexeme) → DeclaredSoFar d vs found → Declarations d (vs ++ us) all.0 all.1
+declared_runs : {has : Bool} {d l n : ℕ} {us ts : List Lexeme} {found all : Declared} → Runs (OneDeclaration has d) found l n us ts all → (vs : List Lexeme) → DeclaredSoFar has d vs found → Declarations has d (vs ++ us) all.0 all.1
 declared_runs (stop (and_more t v h u c is)) = λ vs so. absurd (no_left is)
-declared_runs {d} (stop {us} (the_last t v h is)) = λ vs so. subst (λ (a : Declared). Declarations d (vs ++ us) a.0 a.1) (sym (same_right is)) (one_more_declared so us t v h)
-declared_runs {d} (go {y = next_found} {vs = ws} {a = all} (and_more {us} t v h u c is) rest) = λ vs so.
-    let w : Declarations d (vs ++ us) next_found.0 next_found.1 = subst (λ (a : Declared). Declarations d (vs ++ us) a.0 a.1) (sym (same_left is)) (one_more_declared so us t v h) in
-    subst (λ zs. Declarations d zs all.0 all.1) (append_assoc vs (us ++ u ∷ []) ws)
-    (declared_runs rest (vs ++ (us ++ u ∷ [])) (subst (λ zs. DeclaredSoFar d zs next_found) (append_assoc vs us (u ∷ [])) (comma_behind w u c)))
+declared_runs {has} {d} (stop {us} (the_last t v h is)) = λ vs so. subst (λ (a : Declared). Declarations has d (vs ++ us) a.0 a.1) (sym (same_right is)) (one_more_declared so us t v h)
+declared_runs {has} {d} (go {y = next_found} {vs = ws} {a = all} (and_more {us} t v h u c is) rest) = λ vs so.
+    let w : Declarations has d (vs ++ us) next_found.0 next_found.1 = subst (λ (a : Declared). Declarations has d (vs ++ us) a.0 a.1) (sym (same_left is)) (one_more_declared so us t v h) in
+    subst (λ zs. Declarations has d zs all.0 all.1) (append_assoc vs (us ++ u ∷ []) ws)
+    (declared_runs rest (vs ++ (us ++ u ∷ [])) (subst (λ zs. DeclaredSoFar has d zs next_found) (append_assoc vs us (u ∷ [])) (comma_behind w u c)))
 declared_runs (go (the_last t v h is) rest) = λ vs so. absurd (no_right is)
 
 -- ---- statements one after the other
@@ -471,8 +434,8 @@ other_var = refl
 
 abbrev ForFirstFact : ℕ → Fact Part
 ForFirstFact d = Both (Looked place) (λ from. Both (Eaten k.Var) (λ b. Chosen b
-    (Mapped (Both (Runs (OneDeclaration d) ([], 0)) (λ all. Closed (Expected k.Semicolon) (λ u. node.Var all.0) (λ u. from) (λ u. all.1))) (λ x. part_of x))
-    (Maybe d k.Semicolon)))
+    (Mapped (Both (Runs (OneDeclaration false d) ([], 0)) (λ all. Closed (Expected k.Semicolon) (λ u. node.Var all.0) (λ u. from) (λ u. all.1))) (λ x. part_of x))
+    (Maybe false d k.Semicolon)))
 
 for_first_fact : {d l n : ℕ} {us ts : List Lexeme} {x : Part} → ForFirstFact d l n us ts x → ForFirst d l n us ts x
 unfolding place
@@ -488,20 +451,30 @@ for_firsts : (d : ℕ) → Parses (λ e. for_first (tree e)) d Any (ForFirst d) 
 unfolding for_first for_var
 for_firsts d = says (λ l n us ts x r. for_first_fact r)
     (then_any (look place place_shallow) (λ from. then_any (eaten k.Var other_var) (λ b. choose_any b
-    (mapping (then_any (declarationss d) (λ all. closing (expecting k.Semicolon other_semicolon) (λ u. node.Var all.0) (λ u. from) (λ u. all.1))) (λ x. part_of x))
-    (perhapss d k.Semicolon other_semicolon))))
+    (mapping (then_any (declarationss false d) (λ all. closing (expecting k.Semicolon other_semicolon) (λ u. node.Var all.0) (λ u. from) (λ u. all.1))) (λ x. part_of x))
+    (perhapss false d k.Semicolon other_semicolon))))
 
 abbrev StartAt : Sort → ℕ → Need
 StartAt v from = At (λ s. s) v from
 
-plain_fact : {d l n : ℕ} {us ts : List Lexeme} {x : Grown} → Both (Entire d) (λ x. Closed Closing (λ u. node.Expression x.tree) (λ u. from_of x) (λ u. x.height)) l n us ts x → Stated d l n us ts x
-plain_fact {l} (both {us = us} {vs = vs} {x = x} (entire h e) (closed u (closing_by c) fits is)) =
-    completed_state fits (is ∙ ap (λ a. ending (node.Expression x.tree) (from_of x) a x.height) (sym (end_append l us vs)))
+-- where a statement of some tokens begins
+start_at : (v : Sort) {from : ℕ} (us ts : List Lexeme) → 0 < length us → StartAt v from (us ++ ts) → start_of us ≡ from
+start_at v [] ts some m = absurd (omega arith)
+start_at v (t ∷ us) ts some m = m.1
+
+plain_fact : {d l n : ℕ} {us ts : List Lexeme} {x : Grown} (from : ℕ) (v : Sort) → StartAt v from (us ++ ts)
+    → Both (Entire d) (λ x. Closed Closing (λ u. statement_node from x) (λ u. from_of x) (λ u. x.height)) l n us ts x → Stated d l n us ts x
+plain_fact {l = l} from v m (both {us = us} {vs = vs} {ts = ts} {x = x} (entire h e) (closed u (closing_by c) fits is)) =
+    let begun : start_of us ≡ from = start_at v us (vs ++ ts) (some_tokens h) (subst (λ zs. StartAt v from zs) (append_assoc us vs ts) m) in
+    completed_state fits
+    (is ∙ ap (λ a. ending (statement_node a x) (from_of x) (end_after (end_after l us) vs) x.height) (sym begun)
+    ∙ ap (λ a. ending (statement_node (start_of us) x) (from_of x) a x.height) (sym (end_append l us vs)))
     (end_some l 0 (us ++ vs) (omega (arith, some_tokens h, length-append us vs))) (s.expression_statement h e c)
 
-plains : (d : ℕ) → Parses (λ e. plain (tree e)) d Any (Stated d) Whatever
+plains : (d from : ℕ) (v : Sort) → Parses (λ e. plain (tree e) from) d (StartAt v from) (Stated d) Whatever
 unfolding plain
-plains d = says (λ l n us ts x r. plain_fact r) (then_any (entires d) (λ x. closing (semicolons d) (λ u. node.Expression x.tree) (λ u. from_of x) (λ u. x.height)))
+plains d from v = map_given (λ l n us ts x m r. plain_fact from v m r) (λ l n us ts m r. tt)
+    (given (λ ts m. tt) (then_any (entires d) (λ x. closing (semicolons d) (λ u. statement_node from x) (λ u. from_of x) (λ u. x.height))))
 
 block_fact : {d l n : ℕ} {us ts : List Lexeme} {x : Grown} (from : ℕ) → StartAt k.LeftBrace from (us ++ ts)
     → Both (Taken unit_of) (λ u. Closed (Runs (OneItem d) none) (λ all. node.Block all.trees) (λ all. from) (λ all. all.tall)) l n us ts x → Stated d l n us ts x
@@ -515,7 +488,7 @@ empty_fact : {d l n : ℕ} {us ts : List Lexeme} {x : Grown} (from : ℕ) → St
 empty_fact from m (closed u (taken t e) fits is) = completed_state fits (is ∙ ap (λ a. ending node.Empty a t.to 0) (sym m.1)) refl (s.empty t m.0)
 
 var_fact : {d l n : ℕ} {us ts : List Lexeme} {x : Grown} (from : ℕ) → StartAt k.Var from (us ++ ts)
-    → Both (Taken unit_of) (λ u. Both (Runs (OneDeclaration d) ([], 0)) (λ all. Closed Closing (λ u. node.Var all.0) (λ u. from) (λ u. all.1))) l n us ts x → Stated d l n us ts x
+    → Both (Taken unit_of) (λ u. Both (Runs (OneDeclaration true d) ([], 0)) (λ all. Closed Closing (λ u. node.Var all.0) (λ u. from) (λ u. all.1))) l n us ts x → Stated d l n us ts x
 var_fact from m (both (taken t e) (both {us = us} {vs = vs} {x = all} runs (closed u (closing_by c) fits is))) =
     completed_state fits (is ∙ ap (λ a. ending (node.Var all.0) a (end_after (end_after t.to us) vs) all.1) (sym m.1) ∙ ap (λ a. ending (node.Var all.0) t.from a all.1) (sym (end_append t.to us vs)))
     refl (s.var t m.0 (declared_runs runs [] none_yet) c)
@@ -568,7 +541,7 @@ while_fact from m (both (taken t e) (both {us = us} {vs = vs} {x = x} (condition
     ∙ ap (λ a. ending (node.While x.tree y.tree) t.from a tall) (sym (end_append t.to us vs))) refl (s.while t m.0 c h)
 
 abbrev ForFact : ℕ → ℕ → Fact Grown
-ForFact d from = Both (Taken unit_of) (λ u. Both (Expected k.LeftParenthesis) (λ v. Both (ForFirst d) (λ first. Both (Maybe d k.Semicolon) (λ test. Both (Maybe d k.RightParenthesis) (λ step.
+ForFact d from = Both (Taken unit_of) (λ u. Both (Expected k.LeftParenthesis) (λ v. Both (ForFirst d) (λ first. Both (Maybe true d k.Semicolon) (λ test. Both (Maybe true d k.RightParenthesis) (λ step.
     Closed (Within d) (λ y. node.For first.tree test.tree step.tree y.tree) (λ y. from) (λ y. max first.height (tallest test.height step.height y.height)))))))
 
 for_fact : {d l n : ℕ} {us ts : List Lexeme} {x : Grown} (from : ℕ) → StartAt k.For from (us ++ ts) → ForFact d from l n us ts x → Stated d l n us ts x
@@ -597,7 +570,7 @@ module _ (d : ℕ) (inner : Inner d) where
   states_by from k.LeftBrace = map_given (λ l n us ts x m r. block_fact from m r) (λ l n us ts m r. tt)
       (behind_token k.LeftBrace from (λ e. cc) (closing (itemss d inner) (λ all. node.Block all.trees) (λ all. from) (λ all. all.tall)))
   states_by from k.Var = map_given (λ l n us ts x m r. var_fact from m r) (λ l n us ts m r. tt)
-      (behind_token k.Var from (λ e. cc) (then_any (declarationss d) (λ all. closing (semicolons d) (λ u. node.Var all.0) (λ u. from) (λ u. all.1))))
+      (behind_token k.Var from (λ e. cc) (then_any (declarationss true d) (λ all. closing (semicolons d) (λ u. node.Var all.0) (λ u. from) (λ u. all.1))))
   states_by from k.Semicolon = map_given (λ l n us ts x m r. empty_fact from m r) (λ l n us ts m r. tt)
       (closing (given (token_needs k.Semicolon from (λ e. cc)) (take unit_of unit_shallow)) (λ u. node.Empty) (λ u. from) (λ u. 0))
   states_by from k.If = map_given (λ l n us ts x m r. if_fact from m r) (λ l n us ts m r. tt)
@@ -610,10 +583,10 @@ module _ (d : ℕ) (inner : Inner d) where
   states_by from k.While = map_given (λ l n us ts x m r. while_fact from m r) (λ l n us ts m r. tt)
       (behind_token k.While from (λ e. cc) (then_any (conditions d) (λ x. closing inner.statement (λ y. node.While x.tree y.tree) (λ y. from) (λ y. max x.height y.height))))
   states_by from k.For = map_given (λ l n us ts x m r. for_fact from m r) (λ l n us ts m r. tt)
-      (behind_token k.For from (λ e. cc) (then_any (expecting k.LeftParenthesis other_left) (λ u. then_any (for_firsts d) (λ first. then_any (perhapss d k.Semicolon other_semicolon) (λ test.
-      then_any (perhapss d k.RightParenthesis other_right) (λ step. closing inner.statement (λ y. node.For first.tree test.tree step.tree y.tree) (λ y. from)
+      (behind_token k.For from (λ e. cc) (then_any (expecting k.LeftParenthesis other_left) (λ u. then_any (for_firsts d) (λ first. then_any (perhapss true d k.Semicolon other_semicolon) (λ test.
+      then_any (perhapss true d k.RightParenthesis other_right) (λ step. closing inner.statement (λ y. node.For first.tree test.tree step.tree y.tree) (λ y. from)
       (λ y. max first.height (tallest test.height step.height y.height))))))))
-  states_by from _ = given (λ ts m. tt) (plains d)
+  states_by from v = plains d from v
 
   pub states : Parses (λ e. statement (tree e)) d Any (Stated d) Whatever
   unfolding statement

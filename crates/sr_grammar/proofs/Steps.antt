@@ -1,15 +1,15 @@
 -- What the steps of a parser read, where they fail, and that they look at no more than one token behind what they read.
 use Rattle.std.proofs.Common.{◌≡◌, ℕ, zero, suc, ◌+◌, ◌≤◌, Bool, true, false, List, [], ◌∷◌, ◌++◌, length, Option, None, Some, Result, Ok, Err, refl, sym, ap, ◌∙◌, subst, append_assoc, length-append, arith, rules, ◌⊎◌, inl, inr, if◌then◌else◌, nat_lt, ◌<◌}
-use Rattle.sr_parse.specs.declared.sorts.Lexeme.{Lexeme}
-use Rattle.sr_parse.specs.declared.refusal.Refusal.{Refusal}
-use Rattle.sr_parse.specs.declared.refusal.Refusal.TheVariants.{Memory, Syntax, TooDeep}
-use Rattle.sr_parse.specs.Input.{Input, Outcome, Parser, and_then, ◌>>=◌, place_at, sort_at, line_at, content_at, place, next, refuse, eat, sees, after, sort, expect, complete, max_depth}
-use Rattle.sr_parse.specs.declared.sorts.Sort.{Sort}
-use Rattle.sr_parse.specs.declared.sorts.Sort.TheVariants.{End}
-use Rattle.sr_parse.specs.contracts.sorts.Sort.{the_type}
-use Rattle.sr_parse.specs.Sorts.{same_sort}
+use Rattle.sr_syntax.specs.declared.sorts.Lexeme.{Lexeme}
+use Rattle.sr_syntax.specs.declared.refusal.Refusal.{Refusal}
+use Rattle.sr_syntax.specs.declared.refusal.Refusal.TheVariants.{Memory, Syntax, TooDeep}
+use Rattle.sr_syntax.specs.Input.{Input, Outcome, Parser, and_then, ◌>>=◌, place_at, sort_at, line_at, content_at, place, next, refuse, eat, sees, after, sort, expect, complete, max_depth}
+use Rattle.sr_syntax.specs.declared.sorts.Sort.{Sort}
+use Rattle.sr_syntax.specs.declared.sorts.Sort.TheVariants.{End}
+use Rattle.sr_syntax.specs.contracts.sorts.Sort.{the_type}
+use Rattle.sr_syntax.specs.Sorts.{same_sort}
 use denote.Enum.Bare.{same_true}
-use Rattle.sr_parse.specs.declared.grown.Grown.{Grown}
+use Rattle.sr_syntax.specs.declared.grown.Grown.{Grown}
 use Rattle.sr_ast.specs.declared.tree.Tree.{roll-Tree}
 use Rattle.sr_ast.specs.declared.tree.Node.{Node}
 use Rattle.std.proofs.lemmas.Bool.{ltb-true}

@@ -1,23 +1,25 @@
 -- What holds between the grammar and the parser.
-use Rattle.std.specs.Prelude.{◌≡◌, ℕ, suc, ◌≤◌, ◌<◌, ◌⊎◌, List, [], ◌∷◌, ◌++◌, Ok, Err}
+use Rattle.std.specs.Prelude.{◌≡◌, ℕ, suc, Bool, true, ◌≤◌, ◌<◌, List, [], ◌∷◌, ◌++◌, Ok, Err}
 use Rattle.sr_ast.specs.declared.tree.Tree.{Tree}
-use Rattle.sr_parse.specs.declared.sorts.Lexeme.{Lexeme}
-use Rattle.sr_parse.specs.declared.grown.Grown.{Grown}
-use Rattle.sr_parse.specs.declared.grown.Goal.TheVariants as goal
-use Rattle.sr_parse.specs.declared.refusal.Refusal.TheVariants.{Syntax, TooDeep}
-use Rattle.sr_parse.specs.Input.{Input, start, place_at, max_depth}
-use Rattle.sr_parse.specs.Grammar.{expression, tree, script_of}
+use Rattle.sr_syntax.specs.declared.sorts.Lexeme.{Lexeme}
+use Rattle.sr_syntax.specs.declared.grown.Grown.{Grown}
+use Rattle.sr_syntax.specs.declared.grown.Goal.TheVariants as goal
+use Rattle.sr_syntax.specs.declared.refusal.Refusal.TheVariants.{Syntax, TooDeep}
+use Rattle.sr_syntax.specs.Input.{Input, start, place_at, max_depth}
+use Rattle.sr_syntax.specs.Grammar.{expression, tree, script_of}
 use Rattle.sr_grammar.specs.Derivations.{Derives, Expression, end_after}
 use Rattle.sr_grammar.specs.Continuing.{EndsExpression}
 use Rattle.sr_grammar.specs.Stopping.{Stops}
 use Rattle.sr_grammar.specs.Statements.{States, Clear}
 use Rattle.sr_grammar.specs.Scripts.{Script}
-use Rattle.sr_grammar.specs.Faults.{Begins, NoTarget}
+use Rattle.sr_grammar.specs.Faults.{Begins}
+
+-- In the laws of expressions the flag says whether `in` is an operator.
 
 -- What is read derives, with as many that are open at once, and is not deeper than the greatest depth.
 abbrev pub Sound : Type 0
-Sound = (d size : ℕ) (ts : List Lexeme) (x : Grown) (i : Input) → expression (tree d) (start ts size) ≡ Ok (x, i)
-    → (us : List Lexeme) × (ts ≡ us ++ i.rest) × Derives d Expression us x × (x.height ≤ max_depth)
+Sound = (b : Bool) (d size : ℕ) (ts : List Lexeme) (x : Grown) (i : Input) → expression (tree d) b (start ts size) ≡ Ok (x, i)
+    → (us : List Lexeme) × (ts ≡ us ++ i.rest) × Derives d (Expression b) us x × (x.height ≤ max_depth)
 
 -- behind these tokens
 abbrev pub behind : List Lexeme → List Lexeme → ℕ → Input
@@ -25,45 +27,45 @@ behind us rest size = record { rest = rest; last = end_after 0 us; size = size }
 
 -- What derives and is not deeper is read, with that tree, before what does not continue it.
 abbrev pub Complete : Type 0
-Complete = (d size : ℕ) (us rest : List Lexeme) (x : Grown) → Derives d Expression us x → EndsExpression rest → x.height ≤ max_depth
-    → expression (tree d) (start (us ++ rest) size) ≡ Ok (x, behind us rest size)
+Complete = (b : Bool) (d size : ℕ) (us rest : List Lexeme) (x : Grown) → Derives d (Expression b) us x → EndsExpression b rest → x.height ≤ max_depth
+    → expression (tree d) b (start (us ++ rest) size) ≡ Ok (x, behind us rest size)
 
 -- What derives and is deeper is too deep.
 abbrev pub TooTall : Type 0
-TooTall = (d size : ℕ) (us rest : List Lexeme) (x : Grown) → Derives d Expression us x → EndsExpression rest → max_depth < x.height
-    → expression (tree d) (start (us ++ rest) size) ≡ Err TooDeep
+TooTall = (b : Bool) (d size : ℕ) (us rest : List Lexeme) (x : Grown) → Derives d (Expression b) us x → EndsExpression b rest → max_depth < x.height
+    → expression (tree d) b (start (us ++ rest) size) ≡ Err TooDeep
 
 -- Tokens have one tree, if one that is not too deep.
 abbrev pub Unique : Type 0
-Unique = (d e : ℕ) (us : List Lexeme) (x y : Grown) → Derives d Expression us x → x.height ≤ max_depth → Derives e Expression us y → x ≡ y
+Unique = (b : Bool) (d e : ℕ) (us : List Lexeme) (x y : Grown) → Derives d (Expression b) us x → x.height ≤ max_depth → Derives e (Expression b) us y → x ≡ y
 
 -- No expression begins with these tokens and the first of the others, or with these alone is one where there are no others.
-abbrev pub Ended : List Lexeme → List Lexeme → Type 0
-Ended us [] = (e : ℕ) (x : Grown) → Derives e Expression us x → ⊥
-Ended us (t ∷ ts) = (e : ℕ) (vs : List Lexeme) (x : Grown) → Derives e Expression (us ++ t ∷ vs) x → ⊥
+abbrev pub Ended : Bool → List Lexeme → List Lexeme → Type 0
+Ended b us [] = (e : ℕ) (x : Grown) → Derives e (Expression b) us x → ⊥
+Ended b us (t ∷ ts) = (e : ℕ) (vs : List Lexeme) (x : Grown) → Derives e (Expression b) (us ++ t ∷ vs) x → ⊥
 
--- Where reading fails, the tokens before the place begin an expression, or end with what is read as a target and is none;
--- and those up to the token at the place, or to the end, begin none, however much it may have open and however deep it is.
+-- Where reading fails, the tokens before the place begin an expression; and those up to the token at the place, or to the end,
+-- begin none, however much it may have open and however deep it is.
 abbrev pub FirstFault : Type 0
-FirstFault = (d size place : ℕ) (ts : List Lexeme) → expression (tree d) (start ts size) ≡ Err (Syntax place)
-    → (us rest : List Lexeme) × (ts ≡ us ++ rest) × (place ≡ place_at size rest) × (Begins Expression us ⊎ NoTarget us) × Ended us rest
+FirstFault = (b : Bool) (d size place : ℕ) (ts : List Lexeme) → expression (tree d) b (start ts size) ≡ Err (Syntax place)
+    → (us rest : List Lexeme) × (ts ≡ us ++ rest) × (place ≡ place_at size rest) × Begins (Expression b) us × Ended b us rest
 
 -- Where more may be open, what was read is read again, and what failed fails at the same place: only what was too deep can
 -- have another answer.
 abbrev pub MoreOpen : Type 0
-MoreOpen = (d e size : ℕ) (ts : List Lexeme) → d ≤ e
-    → ((x : Grown) (i : Input) → expression (tree d) (start ts size) ≡ Ok (x, i) → expression (tree e) (start ts size) ≡ Ok (x, i))
-    × ((place : ℕ) → expression (tree d) (start ts size) ≡ Err (Syntax place) → expression (tree e) (start ts size) ≡ Err (Syntax place))
+MoreOpen = (b : Bool) (d e size : ℕ) (ts : List Lexeme) → d ≤ e
+    → ((x : Grown) (i : Input) → expression (tree d) b (start ts size) ≡ Ok (x, i) → expression (tree e) b (start ts size) ≡ Ok (x, i))
+    × ((place : ℕ) → expression (tree d) b (start ts size) ≡ Err (Syntax place) → expression (tree e) b (start ts size) ≡ Err (Syntax place))
 
 -- Tokens that are an expression where more may be open, and no deeper, and are none with so many open, are too deep.
 abbrev pub OpensTooMany : Type 0
-OpensTooMany = (d e size : ℕ) (us rest : List Lexeme) (x : Grown) → Derives e Expression us x → EndsExpression rest → x.height ≤ max_depth
-    → (Derives d Expression us x → ⊥) → expression (tree d) (start (us ++ rest) size) ≡ Err TooDeep
+OpensTooMany = (b : Bool) (d e size : ℕ) (us rest : List Lexeme) (x : Grown) → Derives e (Expression b) us x → EndsExpression b rest → x.height ≤ max_depth
+    → (Derives d (Expression b) us x → ⊥) → expression (tree d) b (start (us ++ rest) size) ≡ Err TooDeep
 
 -- What is read goes as far as an expression can.
 abbrev pub Longest : Type 0
-Longest = (d size : ℕ) (ts : List Lexeme) (x : Grown) (i : Input) → expression (tree d) (start ts size) ≡ Ok (x, i)
-    → (us : List Lexeme) × (ts ≡ us ++ i.rest) × Derives d Expression us x × Stops us i.rest
+Longest = (d size : ℕ) (ts : List Lexeme) (x : Grown) (i : Input) → expression (tree d) true (start ts size) ≡ Ok (x, i)
+    → (us : List Lexeme) × (ts ≡ us ++ i.rest) × Derives d (Expression true) us x × Stops us i.rest
 
 -- What is read as a statement is one before what follows.
 abbrev pub SoundStatement : Type 0

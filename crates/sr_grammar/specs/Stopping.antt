@@ -1,10 +1,10 @@
 -- How far an expression goes.
-use Rattle.std.specs.Prelude.{ℕ, List, [], ◌∷◌, ◌++◌}
-use Rattle.sr_parse.specs.declared.sorts.Lexeme.{Lexeme}
-use Rattle.sr_parse.specs.declared.grown.Grown.{Grown}
+use Rattle.std.specs.Prelude.{ℕ, true, List, [], ◌∷◌, ◌++◌}
+use Rattle.sr_syntax.specs.declared.sorts.Lexeme.{Lexeme}
+use Rattle.sr_syntax.specs.declared.grown.Grown.{Grown}
 use Rattle.sr_grammar.specs.Derivations.{Derives, Expression}
 
 -- no expression begins with these tokens and the first of the others, where there are others
 abbrev pub Stops : List Lexeme → List Lexeme → Type 0
 Stops us [] = Unit {0}
-Stops us (t ∷ ts) = (e : ℕ) (vs : List Lexeme) (x : Grown) → Derives e Expression (us ++ t ∷ vs) x → ⊥
+Stops us (t ∷ ts) = (e : ℕ) (vs : List Lexeme) (x : Grown) → Derives e (Expression true) (us ++ t ∷ vs) x → ⊥
