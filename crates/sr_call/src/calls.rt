@@ -9,8 +9,8 @@ use sr_state::{Frame, Next, State};
 use std::alloc::{AllocError, Global};
 
 /// A step of a frame on top of the stack, of a call of a built-in function. There is one, `print`.
-pub fn step(alloc: Global, state: &mut State, frame: Frame) -> Result<Next, AllocError>
-    ensures { IfOk result (λ next. frame.activity ≡ activity.BuiltIn built_in.Print → StepsBy print_at frame state.old next state.new) }
+pub fn step(alloc: Global, state: &mut State, frame: &mut Frame) -> Result<Next, AllocError>
+    ensures { IfOk result (λ next. frame.old.activity ≡ activity.BuiltIn built_in.Print → StepsBy print_at frame.old state.old next state.new) }
 {
     print(alloc, state, frame)
 }

@@ -30,30 +30,33 @@ fn cost_of(text: &Str) -> u64
 }
 
 /// Prints the line, and waits for it.
-fn print_line(state: &mut State, frame: Frame, text: Str) -> Result<Next, AllocError>
+fn print_line(
+    alloc: Global,
+    state: &mut State,
+    frame: &mut Frame,
+    text: Str,
+) -> Result<Next, AllocError>
     ensures next { IfOk result (λ next. next ≡ Next.Print text) }
-    ensures state { OnOk result (state.new ≡ (let h = state.old in record h { frames = record frame { stage = 1 } ∷ h.frames })) }
+    ensures state { OnOk result (state.new ≡ (let h = state.old in record h { frames = record frame.old { stage = 1 } ∷ h.frames })) }
 {
-    let mut frame = frame;
     frame.stage = 1;
-    state.push(frame)?;
+    state.put_back(alloc, frame)?;
     Ok(Next::Print(text))
 }
 
 /// After a payment, with no argument left: the line is made, and printed where it costs nothing.
-fn make(alloc: Global, state: &mut State, frame: Frame) -> Result<Next, AllocError>
+fn make(alloc: Global, state: &mut State, frame: &mut Frame) -> Result<Next, AllocError>
     requires { state.old.answer ≡ answer.Empty }
-    ensures { IfOk result (λ next. GoesOn frame.activity frame.calls (print_joined (joined (texts_of (plain frame.kept)))) state.old next state.new) }
+    ensures { IfOk result (λ next. GoesOn frame.old.activity frame.old.calls (print_joined (joined (texts_of (plain frame.old.kept)))) state.old next state.new) }
 {
-    let mut frame = frame;
     match line(alloc, frame.kept.as_slice())? {
         None => Ok(Next::Halt(StopName::StringLength)),
         Some(text) => {
             if cost_of(&text) == 0 {
-                print_line(state, frame, text)
+                print_line(alloc, state, frame, text)
             } else {
                 frame.stage = 2;
-                state.push(frame)?;
+                state.put_back(alloc, frame)?;
                 Ok(Next::Pushed)
             }
         }
@@ -62,13 +65,13 @@ fn make(alloc: Global, state: &mut State, frame: Frame) -> Result<Next, AllocErr
 
 /// After a payment, with the frame at its next stage: the next argument pays in the next step, and where none is left the line
 /// is made.
-fn go_on(alloc: Global, state: &mut State, frame: Frame) -> Result<Next, AllocError>
-    requires stage { 3 ≤ frame.stage }
+fn go_on(alloc: Global, state: &mut State, frame: &mut Frame) -> Result<Next, AllocError>
+    requires stage { 3 ≤ frame.old.stage }
     requires answer { state.old.answer ≡ answer.Empty }
-    ensures { IfOk result (λ next. GoesOn frame.activity frame.calls (print_at frame.stage (plain frame.kept)) state.old next state.new) }
+    ensures { IfOk result (λ next. GoesOn frame.old.activity frame.old.calls (print_at frame.old.stage (plain frame.old.kept)) state.old next state.new) }
 {
     if (frame.stage as usize - 3) < frame.kept.len() {
-        state.push(frame)?;
+        state.put_back(alloc, frame)?;
         Ok(Next::Pushed)
     } else {
         make(alloc, state, frame)
@@ -76,12 +79,11 @@ fn go_on(alloc: Global, state: &mut State, frame: Frame) -> Result<Next, AllocEr
 }
 
 /// The entry: the limit of active calls is tested before its charge.
-fn enter(alloc: Global, state: &mut State, frame: Frame) -> Result<Next, AllocError>
-    requires { frame.stage ≡ 0 }
-    ensures { IfOk result (λ next. StepsBy print_at frame state.old next state.new) }
+fn enter(alloc: Global, state: &mut State, frame: &mut Frame) -> Result<Next, AllocError>
+    requires { frame.old.stage ≡ 0 }
+    ensures { IfOk result (λ next. StepsBy print_at frame.old state.old next state.new) }
 {
-    let mut frame = frame;
-    state.put_answer(Answer::Empty);
+    state.clear_answer();
     if frame.calls >= MAX_CALLS {
         return Ok(Next::Halt(StopName::CallDepth));
     }
@@ -99,16 +101,15 @@ fn enter(alloc: Global, state: &mut State, frame: Frame) -> Result<Next, AllocEr
 fn argument(
     alloc: Global,
     state: &mut State,
-    frame: Frame,
+    frame: &mut Frame,
     text: Computed<Str>,
 ) -> Result<Next, AllocError>
-    requires low { 3 ≤ frame.stage }
-    requires high { frame.stage + 1 < 2 ^ 32 }
-    ensures { IfOk result (λ next. (v : model.Value) → slice_get (plain frame.kept) (frame.stage - 3) ≡ Some v → text_computed text ≡ conversion.to_text v
-        → StepsBy print_at frame state.old next state.new) }
+    requires low { 3 ≤ frame.old.stage }
+    requires high { frame.old.stage + 1 < 2 ^ 32 }
+    ensures { IfOk result (λ next. (v : model.Value) → slice_get (plain frame.old.kept) (frame.old.stage - 3) ≡ Some v → text_computed text ≡ conversion.to_text v
+        → StepsBy print_at frame.old state.old next state.new) }
 {
-    let mut frame = frame;
-    state.put_answer(Answer::Empty);
+    state.clear_answer();
     match state.charge(1) {
         Charge::Bound => Ok(state.out_of_steps(1)),
         Charge::Taken => match text {
@@ -141,8 +142,8 @@ fn take_end(state: &mut State) -> bool
 }
 
 /// The line, which pays for itself before it is printed.
-fn pay(alloc: Global, state: &mut State, frame: Frame) -> Result<Next, AllocError>
-    ensures { IfOk result (λ next. Follows (Stays print_at frame.activity) frame.calls (print_joined (joined (texts_of (plain frame.kept)))) state.old next state.new) }
+fn pay(alloc: Global, state: &mut State, frame: &mut Frame) -> Result<Next, AllocError>
+    ensures { IfOk result (λ next. Follows (Stays print_at frame.old.activity) frame.old.calls (print_joined (joined (texts_of (plain frame.old.kept)))) state.old next state.new) }
 {
     let given = take_end(state);
     match line(alloc, frame.kept.as_slice())? {
@@ -152,36 +153,37 @@ fn pay(alloc: Global, state: &mut State, frame: Frame) -> Result<Next, AllocErro
             if cost > 0 {
                 match state.charge(cost) {
                     Charge::Bound => Ok(state.out_of_steps(cost)),
-                    Charge::Taken => print_line(state, frame, text),
+                    Charge::Taken => print_line(alloc, state, frame, text),
                 }
             } else if given {
                 Ok(Next::Give(Completion::Normal(Some(Value::Undefined))))
             } else {
-                print_line(state, frame, text)
+                print_line(alloc, state, frame, text)
             }
         }
     }
 }
 
 /// The line is printed, and undefined is given.
-fn printed(alloc: Global, state: &mut State, frame: Frame) -> Result<Next, AllocError>
-    requires { frame.stage ≡ 1 }
-    ensures { IfOk result (λ next. StepsBy print_at frame state.old next state.new) }
+fn printed(alloc: Global, state: &mut State, frame: &mut Frame) -> Result<Next, AllocError>
+    requires { frame.old.stage ≡ 1 }
+    ensures { IfOk result (λ next. StepsBy print_at frame.old state.old next state.new) }
 {
     match state.take_answer() {
         Answer::Done(_) => Ok(Next::Give(Completion::Normal(Some(Value::Undefined)))),
         Answer::Empty => match line(alloc, frame.kept.as_slice())? {
             None => Err(AllocError),
-            Some(text) => print_line(state, frame, text),
+            Some(text) => print_line(alloc, state, frame, text),
         },
     }
 }
 
 /// A step of a call of `print`.
-pub(crate) fn print(alloc: Global, state: &mut State, frame: Frame) -> Result<Next, AllocError>
-    ensures { IfOk result (λ next. StepsBy print_at frame state.old next state.new) }
+pub(crate) fn print(alloc: Global, state: &mut State, frame: &mut Frame) -> Result<Next, AllocError>
+    ensures { IfOk result (λ next. StepsBy print_at frame.old state.old next state.new) }
 {
-    match frame.stage {
+    let stage = frame.stage;
+    match stage {
         0 => enter(alloc, state, frame),
         1 => printed(alloc, state, frame),
         2 => pay(alloc, state, frame),
@@ -191,10 +193,10 @@ pub(crate) fn print(alloc: Global, state: &mut State, frame: Frame) -> Result<Ne
 }
 
 /// A step of a call of `print` that is at its arguments.
-fn print_on(alloc: Global, state: &mut State, frame: Frame) -> Result<Next, AllocError>
-    requires low { 3 ≤ frame.stage }
-    requires high { frame.stage + 1 < 2 ^ 32 }
-    ensures { IfOk result (λ next. StepsBy print_at frame state.old next state.new) }
+fn print_on(alloc: Global, state: &mut State, frame: &mut Frame) -> Result<Next, AllocError>
+    requires low { 3 ≤ frame.old.stage }
+    requires high { frame.old.stage + 1 < 2 ^ 32 }
+    ensures { IfOk result (λ next. StepsBy print_at frame.old state.old next state.new) }
 {
     match frame.kept.get(frame.stage as usize - 3) {
         None => pay(alloc, state, frame),

@@ -134,8 +134,8 @@ module _ (bound : ℕ) (name text : List ℕ) (x : Script) where
     ended_course j side (completion.Normal v) = ended_after u.printed [] (last_ending name None) refl refl
     ended_course j side (completion.Abrupt (abrupt.Throw v)) = ended_after u.printed (worlds.Uncaught name (report (value_of v)) ∷ []) (last_ending name (Some (report (value_of v)))) refl refl
     ended_course j side (completion.Abrupt (abrupt.Return v)) = ended_after u.printed [] (last_ending name None) refl refl
-    ended_course j side (completion.Abrupt (abrupt.Break l v)) = ended_after u.printed [] (last_ending name None) refl refl
-    ended_course j side (completion.Abrupt (abrupt.Continue l v)) = ended_after u.printed [] (last_ending name None) refl refl
+    ended_course j side (completion.Abrupt (abrupt.Break l)) = ended_after u.printed [] (last_ending name None) refl refl
+    ended_course j side (completion.Abrupt (abrupt.Continue l)) = ended_after u.printed [] (last_ending name None) refl refl
 
     done_with : (tasks : Waiting) (a : Answer) → StandFor (read bound name text x) [] tasks → Ready (read bound name text x) a h.side tasks
         → (j : ℕ) → script_run bound name text x j ≡ finish bound name text x j (Rest (read bound name text x) (tape bound name text x) (map worlds.Printed u.printed) (record h { answer = a }) tasks 0)

@@ -73,7 +73,9 @@ abbrev pub fails : Option Bool → Operated
 fails None = gives_truth false
 fails (Some b) = gives_truth (not b)
 
--- an operator between two values
+-- an operator between two values. `in` and `instanceof` throw a TypeError where the right operand is no object (13.10.1,
+-- 13.10.2). With an object they ask for its properties and methods, which no operation on values does: they are not built, and no
+-- row of an expression applies them
 unfoldable pub operate : BinaryOp → Value → Value → Operated
 operate op.Power x y = numeric power x y
 operate op.Multiply x y = numeric product x y
@@ -88,6 +90,8 @@ operate op.Less x y = operated (is_less_than x y) holds
 operate op.Greater x y = operated (is_less_than_right y x) holds
 operate op.LessOrEqual x y = operated (is_less_than_right y x) fails
 operate op.GreaterOrEqual x y = operated (is_less_than x y) fails
+operate op.InstanceOf x y = Rejects
+operate op.In x y = Rejects
 operate op.Equal x y = operated (is_loosely_equal x y) gives_truth
 operate op.NotEqual x y = operated (is_loosely_equal x y) (λ b. gives_truth (not b))
 operate op.StrictEqual x y = gives_truth (is_strictly_equal x y)
@@ -96,8 +100,9 @@ operate op.And x y = bitwise bitwise_and x y
 operate op.Xor x y = bitwise bitwise_xor x y
 operate op.Or x y = bitwise bitwise_or x y
 
--- 13.5: an operator before a value. `typeof` and `void` convert nothing
+-- 13.5: an operator before a value. `typeof` and `void` convert nothing; `delete` of what is no reference is true (13.5.1.2)
 unfoldable pub operate_one : UnaryOp → Value → Operated
+operate_one unary.Delete x = gives_truth true
 operate_one unary.Void x = Gives (Simple Undefined)
 operate_one unary.Typeof x = Gives (Simple (Str (type_word x)))
 operate_one unary.Plus x = gives_number (to_numeric x)

@@ -137,7 +137,8 @@ fn equality(x: &Value, y: &Value, wanted: bool) -> Operated
 }
 
 /// An operator between two values (ECMA-262 13.15.3, 13.10.1 and 13.11.1). `Halts` comes where the result leaves the
-/// integers of the profile, `Rejects` where a symbol or an object would be converted.
+/// integers of the profile, `Rejects` where a symbol or an object would be converted, and for `in` and `instanceof`, which
+/// want an object on the right (13.10.1, 13.10.2) and with one are not built.
 #[tactic(auto, unfolding(crate::specs::Operators::operate), using(crate::proofs::Cuts::less_right))]
 pub fn operate(alloc: Global, op: BinaryOp, x: &Value, y: &Value) -> Result<Operated, AllocError>
     ensures { IfOk result (λ r. operated_of r ≡ spec.operate op (value_of x.now) (value_of y.now)) }
@@ -148,6 +149,7 @@ pub fn operate(alloc: Global, op: BinaryOp, x: &Value, y: &Value) -> Result<Oper
         BinaryOp::Greater => Ok(holds(less(y, x))),
         BinaryOp::LessOrEqual => Ok(fails(less(y, x))),
         BinaryOp::GreaterOrEqual => Ok(fails(less(x, y))),
+        BinaryOp::InstanceOf | BinaryOp::In => Ok(Operated::Rejects),
         BinaryOp::Equal => Ok(equality(x, y, true)),
         BinaryOp::NotEqual => Ok(equality(x, y, false)),
         BinaryOp::StrictEqual => Ok(gives_truth(strictly_equal(x, y))),
@@ -213,12 +215,13 @@ fn bits_turned(x: &Value) -> Operated
     }
 }
 
-/// An operator before a value (ECMA-262 13.5).
+/// An operator before a value (ECMA-262 13.5). `delete` of what is no reference is true (13.5.1.2).
 #[tactic(auto, unfolding(crate::specs::Operators::operate_one))]
 pub fn operate_one(alloc: Global, op: UnaryOp, x: &Value) -> Result<Operated, AllocError>
     ensures { IfOk result (λ r. operated_of r ≡ spec.operate_one op (value_of x.now)) }
 {
     match op {
+        UnaryOp::Delete => Ok(gives_truth(true)),
         UnaryOp::Void => Ok(Operated::Gives(Value::Undefined)),
         UnaryOp::Typeof => Ok(Operated::Gives(Value::Str(type_word(alloc, x)?))),
         UnaryOp::Plus => Ok(gives_computed(to_number(x))),

@@ -39,7 +39,7 @@ enum Answer {
 const MAX: i64 = 9_007_199_254_740_991;
 
 /// Two values with an operator between them, and what it comes to.
-const BINARY: [(Operand, BinaryOp, Operand, Answer); 64] = [
+const BINARY: [(Operand, BinaryOp, Operand, Answer); 66] = [
     (Text("5"), BinaryOp::Multiply, Text("2"), Gives(Number(10))),
     (Text("abc"), BinaryOp::Multiply, Number(1), Gives(NaN)),
     (Text(" 0x10 "), BinaryOp::Subtract, Null, Gives(Number(16))),
@@ -143,6 +143,8 @@ const BINARY: [(Operand, BinaryOp, Operand, Answer); 64] = [
     (Text("1.5"), BinaryOp::Less, Object(0), Rejects),
     (Text("1.5"), BinaryOp::Less, Symbol, Halts(Form)),
     (Text("1.5"), BinaryOp::Greater, Symbol, Rejects),
+    (Text("a"), BinaryOp::In, Text("abc"), Rejects),
+    (Null, BinaryOp::InstanceOf, Undefined, Rejects),
     (Undefined, BinaryOp::Equal, Null, Gives(Truth(true))),
     (Null, BinaryOp::Equal, Number(0), Gives(Truth(false))),
     (Truth(false), BinaryOp::Equal, Text(""), Gives(Truth(true))),
@@ -182,7 +184,8 @@ const BINARY: [(Operand, BinaryOp, Operand, Answer); 64] = [
 ];
 
 /// An operator before a value, and what it comes to.
-const UNARY: [(UnaryOp, Operand, Answer); 26] = [
+const UNARY: [(UnaryOp, Operand, Answer); 27] = [
+    (UnaryOp::Delete, Number(1), Gives(Truth(true))),
     (UnaryOp::Void, Symbol, Gives(Undefined)),
     (UnaryOp::Typeof, Undefined, Gives(Text("undefined"))),
     (UnaryOp::Typeof, Null, Gives(Text("object"))),

@@ -1,5 +1,5 @@
 -- From what is left of a step to the step.
-use Rattle.std.proofs.Common.{◌≡◌, sym, ap, subst, ◌∙◌, ℕ, List, [], Option, None, Some, Result, Ok, Err, IfOk}
+use Rattle.std.proofs.Common.{◌≡◌, sym, ap, subst, ◌∙◌, ℕ, Bool, true, List, [], Option, None, Some, Result, Ok, Err, IfOk}
 use Rattle.std.specs.declared.alloc.AllocError.{AllocError}
 use Rattle.sr_ast.specs.declared.tree.Tree.{Tree}
 use Rattle.sr_ast.specs.declared.tree.Node.{Node, out-Node}
@@ -7,8 +7,10 @@ use Rattle.sr_ast.specs.Layer.{Layer, layer_of}
 use Rattle.sr_ast.specs.declared.operators.AssignOp.{AssignOp}
 use Rattle.sr_ast.specs.declared.operators.BinaryOp.{BinaryOp}
 use Rattle.sr_ast.specs.declared.operators.UnaryOp.{UnaryOp}
+use Rattle.sr_ast.specs.declared.operators.Link.{Link}
 use Rattle.sr_value.specs.declared.value.Value.{Value}
 use Rattle.sr_model.specs.Values as model
+use Rattle.sr_model.specs.Globals.{either}
 use Rattle.sr_conv.specs.Plain.{option_of}
 use Rattle.sr_conv.specs.Operators.{Operated, operate, operate_one}
 use Rattle.sr_state.specs.Work.{Steps}
@@ -20,7 +22,7 @@ use Rattle.sr_state.specs.declared.ends.Next.{Next}
 use Rattle.sr_state.specs.Trees.{value_in, operated}
 use Rattle.sr_state.specs.Step.{Stays, StepsBy, given, goes, plain}
 use Rattle.sr_expr.specs.Rows.{name_in}
-use Rattle.sr_expr.specs.At.{first_kept, binary_at, unary_at, compound_at, assign_at, expression_at}
+use Rattle.sr_expr.specs.At.{first_kept, binary_at, unary_at, compound_at, assign_at, linked_at, expression_at}
 use Rattle.sr_expr.specs.Ends.{Goes, ending, without_answer}
 
 -- of a result
@@ -71,3 +73,11 @@ by_op source at o op t b f old new r e h = lift r _ _ (λ n s. subst (λ x. Step
 -- by the kind of a tree
 pub by_layer : (source : ℕ) (d : Node) (l : Layer) (t : Tree) (f : Frame) (old new : Held) (r : Result Next AllocError) → t.node ≡ d → out-Node d ≡ l → IfOk r (λ n. StepsBy (expression_at source 0 t.from l) f old n new) → IfOk r (λ n. StepsBy (expression_at source 0 t.from (layer_of t)) f old n new)
 by_layer source d l t f old new r e g h = lift r _ _ (λ n s. subst (λ x. StepsBy (expression_at source 0 t.from x) f old n new) (sym (ap out-Node e ∙ g)) s) h
+
+-- by whether an operator is built
+pub where_built : (row other : ℕ → List model.Value → Steps) (b : Bool) (f : Frame) (old new : Held) (r : Result Next AllocError) → b ≡ true → IfOk r (λ n. StepsBy row f old n new) → IfOk r (λ n. StepsBy (either b row other) f old n new)
+where_built row other b f old new r e h = subst (λ x. IfOk r (λ n. StepsBy (either x row other) f old n new)) (sym e) h
+
+-- by how a call is linked
+pub by_link : (source at : ℕ) (k l : Link) (t : Tree) (ts : List (Option Tree)) (f : Frame) (old new : Held) (r : Result Next AllocError) → l ≡ k → IfOk r (λ n. StepsBy (linked_at source 0 at k t ts) f old n new) → IfOk r (λ n. StepsBy (linked_at source 0 at l t ts) f old n new)
+by_link source at k l t ts f old new r e h = subst (λ x. IfOk r (λ n. StepsBy (linked_at source 0 at x t ts) f old n new)) (sym e) h

@@ -1,6 +1,8 @@
 -- How far a list is carried out.
 use Rattle.std.specs.Prelude.{◌≡◌, ℕ, suc, List, [], ◌∷◌, drop, Option, None, Some}
 use Rattle.sr_ast.specs.declared.tree.Tree.{Tree}
+use Rattle.sr_expr.specs.declared.places.Argument.{Argument}
+use Rattle.sr_expr.specs.declared.places.Argument.TheVariants as argument
 use Rattle.sr_expr.specs.declared.places.Place.{Place}
 use Rattle.sr_expr.specs.declared.places.Place.TheVariants as place
 
@@ -15,3 +17,9 @@ IsPlace n place.Start = n ≡ 0
 IsPlace n place.Callee = n ≡ 1
 IsPlace n place.Called = n ≡ 2
 IsPlace n (place.Argument k) = n ≡ suc (suc (suc k))
+
+-- what is left of the arguments from a place on begins with this one, or nothing is left
+abbrev pub IsArgument : ℕ → List (Option Tree) → Argument → Type 0
+IsArgument n ts argument.End = drop n ts ≡ []
+IsArgument n ts (argument.Expression t) = drop n ts ≡ Some t.now ∷ drop (suc n) ts
+IsArgument n ts argument.NotBuilt = drop n ts ≡ None ∷ drop (suc n) ts

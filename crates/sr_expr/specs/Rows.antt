@@ -1,7 +1,12 @@
 -- The rows of the expressions (ECMA-262 13): what the evaluation of each does, step by step.
 use Rattle.std.specs.Prelude.{ℕ, Bool, true, false, not, List, [], ◌∷◌, ◌++◌, Option, None, Some}
 use Rattle.sr_ast.specs.declared.tree.Tree.{Tree}
-use Rattle.sr_ast.specs.declared.tree.Node.TheOpen as layer
+use Rattle.sr_ast.specs.declared.tree.Case.{Case}
+use Rattle.sr_ast.specs.declared.tree.Declaration.{Declaration}
+use Rattle.sr_ast.specs.declared.tree.Element.{Element, Element-F, out-Element}
+use Rattle.sr_ast.specs.declared.tree.Element.TheOpen as layer
+use Rattle.sr_ast.specs.declared.tree.Node.{Node}
+use Rattle.sr_ast.specs.declared.tree.Property.{Property}
 use Rattle.sr_ast.specs.Layer.{Layer, layer_of}
 use Rattle.sr_ast.specs.declared.operators.BinaryOp.{BinaryOp}
 use Rattle.sr_ast.specs.declared.operators.LogicalOp.{LogicalOp}
@@ -52,7 +57,19 @@ target_name l = []
 abbrev pub name_in : Tree → Text
 name_in t = target_name (layer_of t)
 
+-- 13.3.8: the expression of an argument. An argument after `...` is not built
+abbrev pub expression_in : Element-F Element Node Property Case Declaration Tree → Option Tree
+expression_in (layer.Value t) = Some t
+expression_in x = None
+
+abbrev pub expression_of : Element → Option Tree
+expression_of x = expression_in (out-Element x)
+
 module _ (s e : ℕ) where
+  -- a tree that is not built: after its charge an error is thrown. No script that is accepted has one
+  abbrev pub not_built : ℕ → Steps
+  not_built at = begin s e at throw_error
+
   -- 13.2.3: a literal
   abbrev pub literal : ℕ → Value → Steps
   literal at v = begin s e at (give_value v)
@@ -123,9 +140,10 @@ module _ (s e : ℕ) where
   abbrev pub called : List Value → Steps
   called vs = part (BuiltIn print_number (Simple Undefined) vs None) (λ v. give (Normal v))
 
-  abbrev pub arguments : List Tree → List Value → Steps
+  abbrev pub arguments : List (Option Tree) → List Value → Steps
   arguments [] vs = called vs
-  arguments (t ∷ ts) vs = valued s e t (λ v. arguments ts (vs ++ v ∷ []))
+  arguments (None ∷ ts) vs = throw_error
+  arguments (Some t ∷ ts) vs = valued s e t (λ v. arguments ts (vs ++ v ∷ []))
 
-  abbrev pub call_callee : Tree → List Tree → Steps
+  abbrev pub call_callee : Tree → List (Option Tree) → Steps
   call_callee callee ts = begin s e callee.from (arguments ts [])

@@ -15,22 +15,21 @@ use std::alloc::{AllocError, Global};
 fn plain(
     alloc: Global,
     state: &mut State,
-    frame: Frame,
+    frame: &mut Frame,
     source: u32,
     at: usize,
     target: &Shared<Tree>,
     right: &Shared<Tree>,
 ) -> Result<Next, AllocError>
-    ensures { IfOk result (λ next. StepsBy (plain_at source 0 at target.now right.now) frame state.old next state.new) }
+    ensures { IfOk result (λ next. StepsBy (plain_at source 0 at target.now right.now) frame.old state.old next state.new) }
 {
-    let mut frame = frame;
     match frame.stage {
         0 => {
             if let Some(stop) = begin(state, source, at) {
                 return Ok(stop);
             }
             frame.stage = 1;
-            state.push(frame)?;
+            state.put_back(alloc, frame)?;
             Ok(Next::Pushed)
         }
         1 => {
@@ -57,16 +56,15 @@ fn plain(
 fn compound(
     alloc: Global,
     state: &mut State,
-    frame: Frame,
+    frame: &mut Frame,
     source: u32,
     at: usize,
     op: BinaryOp,
     target: &Shared<Tree>,
     right: &Shared<Tree>,
 ) -> Result<Next, AllocError>
-    ensures { IfOk result (λ next. StepsBy (compound_at source 0 at op target.now right.now) frame state.old next state.new) }
+    ensures { IfOk result (λ next. StepsBy (compound_at source 0 at op target.now right.now) frame.old state.old next state.new) }
 {
-    let mut frame = frame;
     match frame.stage {
         0 => {
             if let Some(stop) = begin(state, source, at) {
@@ -102,16 +100,15 @@ fn compound(
 fn logical_assign(
     alloc: Global,
     state: &mut State,
-    frame: Frame,
+    frame: &mut Frame,
     source: u32,
     at: usize,
     op: LogicalOp,
     target: &Shared<Tree>,
     right: &Shared<Tree>,
 ) -> Result<Next, AllocError>
-    ensures { IfOk result (λ next. StepsBy (logical_assign_at source 0 at op target.now right.now) frame state.old next state.new) }
+    ensures { IfOk result (λ next. StepsBy (logical_assign_at source 0 at op target.now right.now) frame.old state.old next state.new) }
 {
-    let mut frame = frame;
     match frame.stage {
         0 => {
             if let Some(stop) = begin(state, source, at) {
@@ -150,14 +147,14 @@ fn logical_assign(
 pub fn assign(
     alloc: Global,
     state: &mut State,
-    frame: Frame,
+    frame: &mut Frame,
     source: u32,
     at: usize,
     op: AssignOp,
     target: &Shared<Tree>,
     right: &Shared<Tree>,
 ) -> Result<Next, AllocError>
-    ensures { IfOk result (λ next. StepsBy (assign_at source 0 at op target.now right.now) frame state.old next state.new) }
+    ensures { IfOk result (λ next. StepsBy (assign_at source 0 at op target.now right.now) frame.old state.old next state.new) }
 {
     match op {
         AssignOp::Plain => plain(alloc, state, frame, source, at, target, right),

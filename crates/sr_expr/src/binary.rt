@@ -1,4 +1,4 @@
-ghost use Rattle.std.specs.Prelude.{IfOk};
+ghost use Rattle.std.specs.Prelude.{◌≡◌, IfOk};
 ghost use Rattle.sr_state.specs.Step.{StepsBy};
 ghost use Rattle.sr_expr.specs.At.{binary_at};
 
@@ -14,42 +14,90 @@ use std::alloc::{AllocError, Global};
 pub fn binary(
     alloc: Global,
     state: &mut State,
-    frame: Frame,
+    frame: &mut Frame,
     source: u32,
     at: usize,
     op: BinaryOp,
     left: &Shared<Tree>,
     right: &Shared<Tree>,
 ) -> Result<Next, AllocError>
-    ensures { IfOk result (λ next. StepsBy (binary_at source 0 at op left.now right.now) frame state.old next state.new) }
+    ensures { IfOk result (λ next. StepsBy (binary_at source 0 at op left.now right.now) frame.old state.old next state.new) }
 {
-    let mut frame = frame;
     match frame.stage {
-        0 => {
-            if let Some(stop) = begin(state, source, at) {
-                return Ok(stop);
-            }
-            frame.stage = 1;
-            push_part(alloc, state, frame, source, left)
-        }
-        1 => match state.take_answer() {
-            Answer::Empty => push_part(alloc, state, frame, source, left),
-            Answer::Done(Completion::Abrupt(x)) => Ok(Next::Give(Completion::Abrupt(x))),
-            Answer::Done(Completion::Normal(x)) => {
-                frame.kept = Items::new(alloc);
-                frame.kept.push(value_or_undefined(x))?;
-                frame.stage = 2;
-                push_part(alloc, state, frame, source, right)
-            }
-        },
-        2 => match state.take_answer() {
-            Answer::Empty => push_part(alloc, state, frame, source, right),
-            Answer::Done(Completion::Abrupt(x)) => Ok(Next::Give(Completion::Abrupt(x))),
-            Answer::Done(Completion::Normal(y)) => {
-                let came = operated(alloc, op, frame, y)?;
-                end_operated(alloc, state, came, None)
-            }
-        },
+        0 => start(alloc, state, frame, source, at, op, left, right),
+        1 => at_left(alloc, state, frame, source, at, op, left, right),
+        2 => at_right(alloc, state, frame, source, at, op, left, right),
         _ => Ok(refused(state)),
+    }
+}
+
+/// The charge of the operator, and its left operand.
+fn start(
+    alloc: Global,
+    state: &mut State,
+    frame: &mut Frame,
+    source: u32,
+    at: usize,
+    op: BinaryOp,
+    left: &Shared<Tree>,
+    right: &Shared<Tree>,
+) -> Result<Next, AllocError>
+    requires { frame.old.stage ≡ 0 }
+    ensures { IfOk result (λ next. StepsBy (binary_at source 0 at op left.now right.now) frame.old state.old next state.new) }
+{
+    if let Some(stop) = begin(state, source, at) {
+        return Ok(stop);
+    }
+    frame.stage = 1;
+    push_part(alloc, state, frame, source, left)
+}
+
+/// At the left operand, whose value is kept: the right one is next.
+fn at_left(
+    alloc: Global,
+    state: &mut State,
+    frame: &mut Frame,
+    source: u32,
+    at: usize,
+    op: BinaryOp,
+    left: &Shared<Tree>,
+    right: &Shared<Tree>,
+) -> Result<Next, AllocError>
+    requires { frame.old.stage ≡ 1 }
+    ensures { IfOk result (λ next. StepsBy (binary_at source 0 at op left.now right.now) frame.old state.old next state.new) }
+{
+    match state.take_answer() {
+        Answer::Empty => push_part(alloc, state, frame, source, left),
+        Answer::Done(Completion::Abrupt(x)) => Ok(Next::Give(Completion::Abrupt(x))),
+        Answer::Done(Completion::Normal(x)) => {
+            frame.kept = Items::new(alloc);
+            frame.kept.push(value_or_undefined(x))?;
+            frame.stage = 2;
+            push_part(alloc, state, frame, source, right)
+        }
+    }
+}
+
+/// At the right operand: what the operator comes to between both values is the end.
+fn at_right(
+    alloc: Global,
+    state: &mut State,
+    frame: &mut Frame,
+    source: u32,
+    at: usize,
+    op: BinaryOp,
+    left: &Shared<Tree>,
+    right: &Shared<Tree>,
+) -> Result<Next, AllocError>
+    requires { frame.old.stage ≡ 2 }
+    ensures { IfOk result (λ next. StepsBy (binary_at source 0 at op left.now right.now) frame.old state.old next state.new) }
+{
+    match state.take_answer() {
+        Answer::Empty => push_part(alloc, state, frame, source, right),
+        Answer::Done(Completion::Abrupt(x)) => Ok(Next::Give(Completion::Abrupt(x))),
+        Answer::Done(Completion::Normal(y)) => {
+            let came = operated(alloc, op, frame, y)?;
+            end_operated(alloc, state, came, None)
+        }
     }
 }

@@ -1,14 +1,15 @@
-ghost use Rattle.std.specs.Prelude.{◌≡◌, ℕ, suc, ◌∷◌, [], IfOk, OnOk};
+ghost use Rattle.std.specs.Prelude.{◌≡◌, ℕ, suc, ◌∷◌, [], map, IfOk, OnOk};
 ghost use Rattle.sr_ast.specs.declared.tree.Tree as tree;
 ghost use Rattle.sr_state.specs.declared.frame.Activity.TheVariants as activity;
 ghost use Rattle.sr_state.specs.declared.frame.BuiltIn.TheVariants as built_in;
 ghost use Rattle.sr_state.specs.Step.{StepsBy};
 ghost use Rattle.sr_expr.specs.At.{call_at};
+ghost use Rattle.sr_expr.specs.Rows.{expression_of};
 
-use crate::parts::{begin, push_part, value_or_undefined};
-use crate::places::{Place, after, here, place_of};
+use crate::parts::{begin, push_part, throw, value_or_undefined};
+use crate::places::{Argument, Place, after, argument_at, place_of};
 use sqlite_items::Items;
-use sr_ast::Tree;
+use sr_ast::{Element, Tree};
 use sr_shared::Shared;
 use sr_state::{Activity, Answer, BuiltIn, Completion, Frame, Next, State};
 use sr_value::Value;
@@ -26,11 +27,10 @@ fn copied(alloc: Global, values: &Items<Value>) -> Result<Items<Value>, AllocErr
 }
 
 /// Puts the frame of a call back, and one for the callee above it, with the values that it keeps as the arguments.
-fn push_call(alloc: Global, state: &mut State, frame: Frame) -> Result<Next, AllocError>
+fn push_call(alloc: Global, state: &mut State, frame: &mut Frame) -> Result<Next, AllocError>
     ensures next { IfOk result (λ next. next ≡ Next.Pushed) }
-    ensures state { OnOk result (state.new ≡ (let h = state.old in record h { frames = record { activity = activity.BuiltIn built_in.Print; stage = 0; kept = frame.kept; calls = frame.calls } ∷ record { activity = frame.activity; stage = 2; kept = frame.kept; calls = frame.calls } ∷ h.frames })) }
+    ensures state { OnOk result (state.new ≡ (let h = state.old in record h { frames = record { activity = activity.BuiltIn built_in.Print; stage = 0; kept = frame.old.kept; calls = frame.old.calls } ∷ record { activity = frame.old.activity; stage = 2; kept = frame.old.kept; calls = frame.old.calls } ∷ h.frames })) }
 {
-    let mut frame = frame;
     let callee = Frame {
         activity: Activity::BuiltIn(BuiltIn::Print),
         stage: 0,
@@ -38,7 +38,7 @@ fn push_call(alloc: Global, state: &mut State, frame: Frame) -> Result<Next, All
         calls: frame.calls,
     };
     frame.stage = 2;
-    state.push(frame)?;
+    state.put_back(alloc, frame)?;
     state.push(callee)?;
     Ok(Next::Pushed)
 }
@@ -47,22 +47,21 @@ fn push_call(alloc: Global, state: &mut State, frame: Frame) -> Result<Next, All
 pub fn call(
     alloc: Global,
     state: &mut State,
-    frame: Frame,
+    frame: &mut Frame,
     source: u32,
     at: usize,
     callee: &Shared<Tree>,
-    arguments: &Items<Shared<Tree>>,
+    arguments: &Items<Element>,
 ) -> Result<Next, AllocError>
-    ensures { IfOk result (λ next. StepsBy (call_at source 0 at callee.now arguments.now) frame state.old next state.new) }
+    ensures { IfOk result (λ next. StepsBy (call_at source 0 at callee.now (map expression_of arguments.now)) frame.old state.old next state.new) }
 {
-    let mut frame = frame;
     match place_of(frame.stage) {
         Place::Start => {
             if let Some(stop) = begin(state, source, at) {
                 return Ok(stop);
             }
             frame.stage = 1;
-            state.push(frame)?;
+            state.put_back(alloc, frame)?;
             Ok(Next::Pushed)
         }
         Place::Callee => {
@@ -70,9 +69,10 @@ pub fn call(
                 return Ok(stop);
             }
             frame.kept = Items::new(alloc);
-            match here(arguments, 0) {
-                None => push_call(alloc, state, frame),
-                Some(first) => {
+            match argument_at(arguments, 0) {
+                Argument::End => push_call(alloc, state, frame),
+                Argument::NotBuilt => Ok(throw()),
+                Argument::Expression(first) => {
                     frame.stage = 3;
                     push_part(alloc, state, frame, source, first)
                 }
@@ -91,25 +91,30 @@ pub fn call(
 fn argument(
     alloc: Global,
     state: &mut State,
-    frame: Frame,
+    frame: &mut Frame,
     source: u32,
-    arguments: &Items<Shared<Tree>>,
+    arguments: &Items<Element>,
     number: u32,
 ) -> Result<Next, AllocError>
-    requires { frame.stage ≡ suc (suc (suc number)) }
-    ensures { IfOk result (λ next. (at : ℕ) (callee : tree.Tree) → StepsBy (call_at source 0 at callee arguments.now) frame state.old next state.new) }
+    requires { frame.old.stage ≡ suc (suc (suc number)) }
+    ensures { IfOk result (λ next. (at : ℕ) (callee : tree.Tree) → StepsBy (call_at source 0 at callee (map expression_of arguments.now)) frame.old state.old next state.new) }
 {
-    let mut frame = frame;
-    match (here(arguments, number), state.take_answer()) {
-        (None, Answer::Empty) => push_call(alloc, state, frame),
-        (Some(part), Answer::Empty) => push_part(alloc, state, frame, source, part),
+    match (argument_at(arguments, number), state.take_answer()) {
+        (Argument::NotBuilt, _) => Ok(throw()),
+        (Argument::End, Answer::Empty) => push_call(alloc, state, frame),
+        (Argument::Expression(part), Answer::Empty) => {
+            push_part(alloc, state, frame, source, part)
+        }
         (_, Answer::Done(Completion::Abrupt(x))) => Ok(Next::Give(Completion::Abrupt(x))),
-        (None, Answer::Done(Completion::Normal(x))) => Ok(Next::Give(Completion::Normal(x))),
-        (Some(_), Answer::Done(Completion::Normal(value))) => {
+        (Argument::End, Answer::Done(Completion::Normal(x))) => {
+            Ok(Next::Give(Completion::Normal(x)))
+        }
+        (Argument::Expression(_), Answer::Done(Completion::Normal(value))) => {
             frame.kept.push(value_or_undefined(value))?;
-            match here(arguments, after(number)?) {
-                None => push_call(alloc, state, frame),
-                Some(next) => {
+            match argument_at(arguments, after(number)?) {
+                Argument::End => push_call(alloc, state, frame),
+                Argument::NotBuilt => Ok(throw()),
+                Argument::Expression(next) => {
                     frame.stage = after(frame.stage)?;
                     push_part(alloc, state, frame, source, next)
                 }

@@ -30,16 +30,15 @@ pub fn decides(op: LogicalOp, value: &Value) -> bool
 pub fn condition(
     alloc: Global,
     state: &mut State,
-    frame: Frame,
+    frame: &mut Frame,
     source: u32,
     at: usize,
     test: &Shared<Tree>,
     yes: &Shared<Tree>,
     no: &Shared<Tree>,
 ) -> Result<Next, AllocError>
-    ensures { IfOk result (λ next. StepsBy (condition_at source 0 at test.now yes.now no.now) frame state.old next state.new) }
+    ensures { IfOk result (λ next. StepsBy (condition_at source 0 at test.now yes.now no.now) frame.old state.old next state.new) }
 {
-    let mut frame = frame;
     match frame.stage {
         0 => {
             if let Some(stop) = begin(state, source, at) {
@@ -79,16 +78,15 @@ pub fn condition(
 pub fn logical(
     alloc: Global,
     state: &mut State,
-    frame: Frame,
+    frame: &mut Frame,
     source: u32,
     at: usize,
     op: LogicalOp,
     left: &Shared<Tree>,
     right: &Shared<Tree>,
 ) -> Result<Next, AllocError>
-    ensures { IfOk result (λ next. StepsBy (logical_at source 0 at op left.now right.now) frame state.old next state.new) }
+    ensures { IfOk result (λ next. StepsBy (logical_at source 0 at op left.now right.now) frame.old state.old next state.new) }
 {
-    let mut frame = frame;
     match frame.stage {
         0 => {
             if let Some(stop) = begin(state, source, at) {

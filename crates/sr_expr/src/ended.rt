@@ -62,10 +62,10 @@ pub fn end_operated(
 pub fn operated(
     alloc: Global,
     op: BinaryOp,
-    frame: Frame,
+    frame: &mut Frame,
     right: Option<Value>,
 ) -> Result<Operated, AllocError>
-    ensures { IfOk result (λ r. operated_of r ≡ spec.operate op (first_kept (plain frame.kept)) (value_in (option_of right))) }
+    ensures { IfOk result (λ r. operated_of r ≡ spec.operate op (first_kept (plain frame.old.kept)) (value_in (option_of right))) }
 {
     let left = first_kept(frame);
     let right = value_or_undefined(right);

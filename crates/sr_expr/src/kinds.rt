@@ -6,21 +6,20 @@ ghost use Rattle.sr_state.specs.Step.{StepsBy};
 ghost use Rattle.sr_expr.specs.At.{expression_at};
 
 use crate::assign::assign;
-use crate::basic::{literal, name};
-use crate::binary::binary;
-use crate::call::call;
+use crate::basic::{literal, name, not_built};
+use crate::built::{linked, operator, prefix};
 use crate::choice::{condition, logical};
 use crate::lists::sequence;
 use crate::parts::refused;
-use crate::unary::{unary, update};
+use crate::unary::update;
 use sr_ast::{Node, Tree};
 use sr_state::{Activity, Frame, Next, State};
 use sr_value::Value;
 use std::alloc::{AllocError, Global};
 
-/// A step of the frame of an expression (ECMA-262 13). What is no expression throws.
-pub fn step(alloc: Global, state: &mut State, frame: Frame) -> Result<Next, AllocError>
-    ensures { IfOk result (λ next. (source : ℕ) (t : tree.Tree) → frame.activity ≡ activity.Tree source t → StepsBy (expression_at source 0 t.from (layer_of t)) frame state.old next state.new) }
+/// A step of the frame of an expression (ECMA-262 13). What is no expression or not built throws after its charge.
+pub fn step(alloc: Global, state: &mut State, frame: &mut Frame) -> Result<Next, AllocError>
+    ensures { IfOk result (λ next. (source : ℕ) (t : tree.Tree) → frame.old.activity ≡ activity.Tree source t → StepsBy (expression_at source 0 t.from (layer_of t)) frame.old state.old next state.new) }
 {
     let shared = match &frame.activity {
         Activity::Tree(source, code) => Some((*source, code.share()?)),
@@ -36,16 +35,16 @@ pub fn step(alloc: Global, state: &mut State, frame: Frame) -> Result<Next, Allo
 fn expression(
     alloc: Global,
     state: &mut State,
-    frame: Frame,
+    frame: &mut Frame,
     source: u32,
     tree: &Tree,
 ) -> Result<Next, AllocError>
-    ensures { IfOk result (λ next. StepsBy (expression_at source 0 tree.now.from (layer_of tree.now)) frame state.old next state.new) }
+    ensures { IfOk result (λ next. StepsBy (expression_at source 0 tree.now.from (layer_of tree.now)) frame.old state.old next state.new) }
 {
     let at = tree.from;
     match &tree.node {
         Node::Sequence(parts) => sequence(alloc, state, frame, source, at, parts),
-        Node::Assign(op, target, right) => {
+        Node::Assign(op, target, right, _) => {
             assign(alloc, state, frame, source, at, *op, target, right)
         }
         Node::Cond(test, yes, no) => condition(alloc, state, frame, source, at, test, yes, no),
@@ -53,25 +52,18 @@ fn expression(
             logical(alloc, state, frame, source, at, *op, left, right)
         }
         Node::Binary(op, left, right) => {
-            binary(alloc, state, frame, source, at, *op, left, right)
+            operator(alloc, state, frame, source, at, *op, left, right)
         }
-        Node::Unary(op, operand) => unary(alloc, state, frame, source, at, *op, operand),
+        Node::Unary(op, operand) => prefix(alloc, state, frame, source, at, *op, operand),
         Node::Update(op, target) => update(alloc, state, frame, source, at, *op, target),
-        Node::Call(callee, arguments) => {
-            call(alloc, state, frame, source, at, callee, arguments)
+        Node::Call(link, callee, arguments) => {
+            linked(alloc, state, frame, source, at, *link, callee, arguments)
         }
         Node::Name(text) => name(state, frame, source, at, text),
         Node::Null => Ok(literal(state, frame, source, at, Value::Null)),
         Node::Bool(b) => Ok(literal(state, frame, source, at, Value::Bool(*b))),
         Node::Num(n) => Ok(literal(state, frame, source, at, Value::Num(*n))),
         Node::Text(text) => { Ok(literal(state, frame, source, at, Value::Str(text.clone()?))) }
-        Node::Expression(_)
-        | Node::Var(_)
-        | Node::Block(_)
-        | Node::Empty
-        | Node::If(_, _, _)
-        | Node::Do(_, _)
-        | Node::While(_, _)
-        | Node::For(_, _, _, _) => Ok(refused(state)),
+        _ => Ok(not_built(state, frame, source, at)),
     }
 }

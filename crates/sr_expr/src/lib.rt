@@ -7,6 +7,8 @@ mod assign;
 mod basic;
 /// Operators with both operands.
 mod binary;
+/// What is built of operators and calls.
+mod built;
 /// Calls.
 mod call;
 /// Conditions and logical operators.

@@ -15,14 +15,13 @@ use std::alloc::{AllocError, Global};
 pub fn sequence(
     alloc: Global,
     state: &mut State,
-    frame: Frame,
+    frame: &mut Frame,
     source: u32,
     at: usize,
     parts: &Items<Shared<Tree>>,
 ) -> Result<Next, AllocError>
-    ensures { IfOk result (λ next. StepsBy (sequence_at source 0 at parts.now) frame state.old next state.new) }
+    ensures { IfOk result (λ next. StepsBy (sequence_at source 0 at parts.now) frame.old state.old next state.new) }
 {
-    let mut frame = frame;
     match before(frame.stage) {
         None => {
             if let Some(stop) = begin(state, source, at) {
@@ -38,7 +37,7 @@ pub fn sequence(
         }
         Some(number) => match here(parts, number) {
             None => {
-                state.put_answer(Answer::Empty);
+                state.clear_answer();
                 Ok(give(Value::Undefined))
             }
             Some(part) => match state.take_answer() {

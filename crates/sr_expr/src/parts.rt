@@ -19,15 +19,15 @@ use std::alloc::{AllocError, Global};
 pub fn push_part(
     alloc: Global,
     state: &mut State,
-    frame: Frame,
+    frame: &mut Frame,
     source: u32,
     part: &Shared<Tree>,
 ) -> Result<Next, AllocError>
     ensures next { IfOk result (λ next. next ≡ Next.Pushed) }
-    ensures state { OnOk result (state.new ≡ (let h = state.old in record h { frames = record { activity = activity.Tree source part.now; stage = 0; kept = []; calls = frame.calls } ∷ frame ∷ h.frames })) }
+    ensures state { OnOk result (state.new ≡ (let h = state.old in record h { frames = record { activity = activity.Tree source part.now; stage = 0; kept = []; calls = frame.old.calls } ∷ frame.old ∷ h.frames })) }
 {
     let calls = frame.calls;
-    state.push(frame)?;
+    state.put_back(alloc, frame)?;
     state.push(Frame::fresh(alloc, source, Code::new(part)?, calls))?;
     Ok(Next::Pushed)
 }
@@ -43,14 +43,13 @@ pub fn value_or_undefined(value: Option<Value>) -> Value
 }
 
 /// The first value that a frame keeps.
-pub fn first_kept(frame: Frame) -> Value
-    ensures { value_of result ≡ first_kept (plain frame.kept) }
+pub fn first_kept(frame: &mut Frame) -> Value
+    ensures { value_of result ≡ first_kept (plain frame.old.kept) }
 {
-    let mut kept = frame.kept;
-    if kept.is_empty() {
+    if frame.kept.is_empty() {
         Value::Undefined
     } else {
-        kept.remove(0)
+        frame.kept.remove(0)
     }
 }
 
@@ -58,7 +57,7 @@ pub fn first_kept(frame: Frame) -> Value
 pub fn begin(state: &mut State, source: u32, at: usize) -> Option<Next>
     ensures { Begun source at state.old result state.new }
 {
-    state.put_answer(Answer::Empty);
+    state.clear_answer();
     match state.begin(source, at) {
         Charge::Taken => None,
         Charge::Bound => Some(state.out_of_steps(1)),
@@ -70,7 +69,7 @@ pub fn refused(state: &mut State) -> Next
     ensures result { result ≡ Next.Give (Completion.Abrupt (Abrupt.Throw Value.Undefined)) }
     ensures state { state.new ≡ without_answer state.old }
 {
-    state.put_answer(Answer::Empty);
+    state.clear_answer();
     throw()
 }
 

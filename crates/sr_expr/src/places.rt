@@ -1,9 +1,10 @@
-ghost use Rattle.std.specs.Prelude.{◌≡◌, suc, IfOk, MatchOption};
+ghost use Rattle.std.specs.Prelude.{◌≡◌, suc, map, IfOk, MatchOption};
 ghost use Rattle.std.specs.Option.{option_copied};
-ghost use Rattle.sr_expr.specs.Places.{Here, IsPlace};
+ghost use Rattle.sr_expr.specs.Places.{Here, IsArgument, IsPlace};
+ghost use Rattle.sr_expr.specs.Rows.{expression_of};
 
 use sqlite_items::Items;
-use sr_ast::Tree;
+use sr_ast::{Element, Tree};
 use sr_shared::Shared;
 use std::alloc::AllocError;
 
@@ -55,4 +56,39 @@ pub fn here(trees: &Items<Shared<Tree>>, at: u32) -> Option<&Shared<Tree>>
     ensures { Here at trees.now (option_copied result) }
 {
     trees.get(at as usize)
+}
+
+/// What stands at a place of the arguments of a call.
+#[derive(Clone, Copy)]
+pub enum Argument<'a> {
+    /// Nothing: they end before it.
+    End,
+    /// An expression.
+    Expression(&'a Shared<Tree>),
+    /// What is not built.
+    NotBuilt,
+}
+
+/// The expression of an argument; none where it is not built.
+fn expression_in(element: &Element) -> Option<&Shared<Tree>>
+    ensures { option_copied result ≡ expression_of element.now }
+{
+    match element {
+        Element::Value(tree) => Some(tree),
+        Element::Spread(_) | Element::Hole => None,
+    }
+}
+
+/// The argument of this number, from 0.
+#[tactic(auto, using(crate::proofs::Drops::argument_there, crate::proofs::Drops::argument_none))]
+pub fn argument_at(arguments: &Items<Element>, at: u32) -> Argument<'_>
+    ensures { IsArgument at (map expression_of arguments.now) result }
+{
+    match arguments.get(at as usize) {
+        None => Argument::End,
+        Some(element) => match expression_in(element) {
+            None => Argument::NotBuilt,
+            Some(tree) => Argument::Expression(tree),
+        },
+    }
 }

@@ -19,15 +19,14 @@ use std::alloc::{AllocError, Global};
 pub fn unary(
     alloc: Global,
     state: &mut State,
-    frame: Frame,
+    frame: &mut Frame,
     source: u32,
     at: usize,
     op: UnaryOp,
     operand: &Shared<Tree>,
 ) -> Result<Next, AllocError>
-    ensures { IfOk result (λ next. StepsBy (unary_at source 0 at op operand.now) frame state.old next state.new) }
+    ensures { IfOk result (λ next. StepsBy (unary_at source 0 at op operand.now) frame.old state.old next state.new) }
 {
-    let mut frame = frame;
     match frame.stage {
         0 => {
             if let Some(stop) = begin(state, source, at) {
@@ -60,15 +59,14 @@ fn numbers(op: UpdateOp, old: Option<Value>) -> Computed<Stepped>
 pub fn update(
     alloc: Global,
     state: &mut State,
-    frame: Frame,
+    frame: &mut Frame,
     source: u32,
     at: usize,
     op: UpdateOp,
     target: &Shared<Tree>,
 ) -> Result<Next, AllocError>
-    ensures { IfOk result (λ next. StepsBy (update_at source 0 at op target.now) frame state.old next state.new) }
+    ensures { IfOk result (λ next. StepsBy (update_at source 0 at op target.now) frame.old state.old next state.new) }
 {
-    let mut frame = frame;
     match frame.stage {
         0 => {
             if let Some(stop) = begin(state, source, at) {

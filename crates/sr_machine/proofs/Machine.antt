@@ -182,7 +182,7 @@ module _ (read : Text → Option Script) where
             λ tape v m. (m, omega arith, left_same read o.bound tape v ts task k x got m turn p now e asks' ∙ rest_is tape v m k side task kept ts new l.0 l.1 l.2),
           ))
 
-      comes_after : (c : Coming Work) (n : Next) (new : Held) → turn.next ≡ c → comes stays under o x side k s (keeping turn.keeps s) c n new → After o under ts (from k x got) n new
+      comes_after : (c : Coming Work) (n : Next) (new : Held) → turn.next ≡ c → comes stays under o side k (keeping turn.keeps s) c n new → After o under ts (from k x got) n new
       comes_after (Give y) (next.Give g) new e h =
           (let l = h.1 in (
             h.2,
@@ -314,7 +314,7 @@ module _ (read : Text → Option Script) where
           )
       entered_after true n new e enter h = short_after (room_in o.bound side' 1) n new e enter refl h
 
-      opens_after : (c : Coming Work) (n : Next) (new : Held) → turn'.next ≡ c → opens stays under o x side' k s (keeping turn'.keeps s) c n new → After o under ts (from k x got) n new
+      opens_after : (c : Coming Work) (n : Next) (new : Held) → turn'.next ≡ c → opens stays under o side' k (keeping turn'.keeps s) c n new → After o under ts (from k x got) n new
       opens_after (Give y) n new e h = comes_after x k s got agree (Give y) n new e h
       opens_after (Halt y) n new e h = comes_after x k s got agree (Halt y) n new e h
       opens_after (Part p) n new e h = comes_after x k s got agree (Part p) n new e h

@@ -93,27 +93,27 @@ module _ (stays : ℕ → Frame → Steps → Type 0) (under : List Frame) (o : 
   left_counted : (n : Next) (new : Held) (k : ℕ) (s : Steps) → n ≡ next.Pushed → Back stays under o k s new → Counted under n new
   left_counted n new k s e b = let c : length new.frames ≡ length under + 1 = one_long new.frames k s b in subst (λ (n : Next). Counted under n new) (sym e) (omega arith)
 
-  comes_counted : (x x' : Side) (k : ℕ) (s s' : Steps) (c : Coming Work) (n : Next) (new : Held) → comes stays under o x x' k s s' c n new → Counted under n new
-  comes_counted x x' k s s' (Give y) (next.Give g) new h = h.2
-  comes_counted x x' k s s' (Give y) next.Pushed new h = absurd h.0
-  comes_counted x x' k s s' (Give y) (next.Print text) new h = absurd h.0
-  comes_counted x x' k s s' (Give y) (next.Halt name) new h = absurd h.0
-  comes_counted x x' k s s' (Halt y) (next.Halt name) new h = tt
-  comes_counted x x' k s s' (Halt y) next.Pushed new h = absurd h.0
-  comes_counted x x' k s s' (Halt y) (next.Print text) new h = absurd h.0
-  comes_counted x x' k s s' (Halt y) (next.Give g) new h = absurd h.0
-  comes_counted x x' k s s' (Part t) n new h = subst (λ (n : Next). Counted under n new) (sym h.0) (two_long new.frames k t s' h.2)
-  comes_counted x x' k s s' (Use (Line text)) n new h = subst (λ (n : Next). Counted under n new) (sym h.0) (one_long new.frames k s' h.2)
-  comes_counted x x' k s s' (Use (Charge c)) n new h = left_counted n new k s' h.0 h.2
-  comes_counted x x' k s s' (Use Enter) n new h = left_counted n new k s' h.0 h.2
-  comes_counted x x' k s s' (Use Ticket) n new h = absurd h
-  comes_counted x x' k s s' (Use NewRealm) n new h = absurd h
-  comes_counted x x' k s s' (Use (Load name)) n new h = absurd h
-  comes_counted x x' k s s' (Use (Tell i y)) n new h = absurd h
-  comes_counted x x' k s s' (Use (Ask y)) n new h = absurd h
+  comes_counted : (x : Side) (k : ℕ) (s : Steps) (c : Coming Work) (n : Next) (new : Held) → comes stays under o x k s c n new → Counted under n new
+  comes_counted x k s (Give y) (next.Give g) new h = h.2
+  comes_counted x k s (Give y) next.Pushed new h = absurd h.0
+  comes_counted x k s (Give y) (next.Print text) new h = absurd h.0
+  comes_counted x k s (Give y) (next.Halt name) new h = absurd h.0
+  comes_counted x k s (Halt y) (next.Halt name) new h = tt
+  comes_counted x k s (Halt y) next.Pushed new h = absurd h.0
+  comes_counted x k s (Halt y) (next.Print text) new h = absurd h.0
+  comes_counted x k s (Halt y) (next.Give g) new h = absurd h.0
+  comes_counted x k s (Part t) n new h = subst (λ (n : Next). Counted under n new) (sym h.0) (two_long new.frames k t s h.2)
+  comes_counted x k s (Use (Line text)) n new h = subst (λ (n : Next). Counted under n new) (sym h.0) (one_long new.frames k s h.2)
+  comes_counted x k s (Use (Charge c)) n new h = left_counted n new k s h.0 h.2
+  comes_counted x k s (Use Enter) n new h = left_counted n new k s h.0 h.2
+  comes_counted x k s (Use Ticket) n new h = absurd h
+  comes_counted x k s (Use NewRealm) n new h = absurd h
+  comes_counted x k s (Use (Load name)) n new h = absurd h
+  comes_counted x k s (Use (Tell i y)) n new h = absurd h
+  comes_counted x k s (Use (Ask y)) n new h = absurd h
 
   again_counted : (x : Side) (k : ℕ) (s : Steps) (t : Turned Work Holds) (n : Next) (new : Held) → again stays under o x k s t n new → Counted under n new
-  again_counted x k s t n new h = comes_counted x (put_in t.inner x) k s (keeping t.keeps s) t.next n new h
+  again_counted x k s t n new h = comes_counted (put_in t.inner x) k (keeping t.keeps s) t.next n new h
 
   halt_counted : (n : Next) (new : Held) → IsHalt n → Counted under n new
   halt_counted (next.Halt name) new h = tt
@@ -129,33 +129,33 @@ module _ (stays : ℕ → Frame → Steps → Type 0) (under : List Frame) (o : 
   entered_counted false x k s n new h = halt_counted n new (subst IsHalt (sym h.0) tt)
   entered_counted true x k s n new h = paid_counted (room_in o.bound x 1) x 1 (suc k) s n new h
 
-  opens_counted : (x x' : Side) (k : ℕ) (s s' : Steps) (c : Coming Work) (n : Next) (new : Held) → opens stays under o x x' k s s' c n new → Counted under n new
-  opens_counted x x' k s s' (Give y) n new h = comes_counted x x' k s s' (Give y) n new h
-  opens_counted x x' k s s' (Halt y) n new h = comes_counted x x' k s s' (Halt y) n new h
-  opens_counted x x' k s s' (Part t) n new h = comes_counted x x' k s s' (Part t) n new h
-  opens_counted x x' k s s' (Use (Line text)) n new h = comes_counted x x' k s s' (Use (Line text)) n new h
-  opens_counted x x' k s s' (Use (Charge zero)) n new h = again_counted x' k (λ more. s' (Paid ∷ more)) (s' (Paid ∷ []) x'.realm) n new h
-  opens_counted x x' k s s' (Use (Charge (suc c))) n new h = paid_counted (room_in o.bound x' (suc c)) x' (suc c) k (λ more. s' (Paid ∷ more)) n new h
-  opens_counted x x' k s s' (Use Enter) n new h = entered_counted (may_enter k) x' k (λ more. s' (Paid ∷ more)) n new h
-  opens_counted x x' k s s' (Use Ticket) n new h = absurd h
-  opens_counted x x' k s s' (Use NewRealm) n new h = absurd h
-  opens_counted x x' k s s' (Use (Load name)) n new h = absurd h
-  opens_counted x x' k s s' (Use (Tell i y)) n new h = absurd h
-  opens_counted x x' k s s' (Use (Ask y)) n new h = absurd h
+  opens_counted : (x : Side) (k : ℕ) (s : Steps) (c : Coming Work) (n : Next) (new : Held) → opens stays under o x k s c n new → Counted under n new
+  opens_counted x k s (Give y) n new h = comes_counted x k s (Give y) n new h
+  opens_counted x k s (Halt y) n new h = comes_counted x k s (Halt y) n new h
+  opens_counted x k s (Part t) n new h = comes_counted x k s (Part t) n new h
+  opens_counted x k s (Use (Line text)) n new h = comes_counted x k s (Use (Line text)) n new h
+  opens_counted x k s (Use (Charge zero)) n new h = again_counted x k (λ more. s (Paid ∷ more)) (s (Paid ∷ []) x.realm) n new h
+  opens_counted x k s (Use (Charge (suc c))) n new h = paid_counted (room_in o.bound x (suc c)) x (suc c) k (λ more. s (Paid ∷ more)) n new h
+  opens_counted x k s (Use Enter) n new h = entered_counted (may_enter k) x k (λ more. s (Paid ∷ more)) n new h
+  opens_counted x k s (Use Ticket) n new h = absurd h
+  opens_counted x k s (Use NewRealm) n new h = absurd h
+  opens_counted x k s (Use (Load name)) n new h = absurd h
+  opens_counted x k s (Use (Tell i y)) n new h = absurd h
+  opens_counted x k s (Use (Ask y)) n new h = absurd h
 
   -- the count of steps
-  comes_side : (x x' : Side) (k : ℕ) (s s' : Steps) (c : Coming Work) (n : Next) (new : Held) → comes stays under o x x' k s s' c n new → new.side ≡ x'
-  comes_side x x' k s s' (Give y) n new h = (let l = h.1 in l.0)
-  comes_side x x' k s s' (Halt y) n new h = h.1
-  comes_side x x' k s s' (Part t) n new h = (let l = h.1 in l.0)
-  comes_side x x' k s s' (Use (Line text)) n new h = (let l = h.1 in l.0)
-  comes_side x x' k s s' (Use (Charge c)) n new h = (let l = h.1 in l.0)
-  comes_side x x' k s s' (Use Enter) n new h = (let l = h.1 in l.0)
-  comes_side x x' k s s' (Use Ticket) n new h = absurd h
-  comes_side x x' k s s' (Use NewRealm) n new h = absurd h
-  comes_side x x' k s s' (Use (Load name)) n new h = absurd h
-  comes_side x x' k s s' (Use (Tell i y)) n new h = absurd h
-  comes_side x x' k s s' (Use (Ask y)) n new h = absurd h
+  comes_side : (x : Side) (k : ℕ) (s : Steps) (c : Coming Work) (n : Next) (new : Held) → comes stays under o x k s c n new → new.side ≡ x
+  comes_side x k s (Give y) n new h = (let l = h.1 in l.0)
+  comes_side x k s (Halt y) n new h = h.1
+  comes_side x k s (Part t) n new h = (let l = h.1 in l.0)
+  comes_side x k s (Use (Line text)) n new h = (let l = h.1 in l.0)
+  comes_side x k s (Use (Charge c)) n new h = (let l = h.1 in l.0)
+  comes_side x k s (Use Enter) n new h = (let l = h.1 in l.0)
+  comes_side x k s (Use Ticket) n new h = absurd h
+  comes_side x k s (Use NewRealm) n new h = absurd h
+  comes_side x k s (Use (Load name)) n new h = absurd h
+  comes_side x k s (Use (Tell i y)) n new h = absurd h
+  comes_side x k s (Use (Ask y)) n new h = absurd h
 
   module _ (x : Side) (a : Answer) where
     paid_spent : (b : Bool) (i : Inner Holds) (c k : ℕ) (s : Steps) (n : Next) (new : Held) → room_in o.bound x c ≡ b → 0 < c → paid stays under o b (put_in i x) c k s n new → Spent o x a n new
@@ -164,14 +164,14 @@ module _ (stays : ℕ → Frame → Steps → Type 0) (under : List Frame) (o : 
         (let y : Side = pay_in c (put_in i x) in
         let t = s [] y.realm in
         let fits : x.used + c ≤ o.bound = leb-true (x.used + c) o.bound room in
-        inl (record { cost = c; some = pos; used = ap (λ (z : Side). z.used) (comes_side y (put_in t.inner y) k s (keeping t.keeps s) t.next n new h); room = fits }))
+        inl (record { cost = c; some = pos; used = ap (λ (z : Side). z.used) (comes_side (put_in t.inner y) k (keeping t.keeps s) t.next n new h); room = fits }))
 
     entered_spent : (b : Bool) (i : Inner Holds) (k : ℕ) (s : Steps) (n : Next) (new : Held) → entered stays under o b (put_in i x) k s n new → Spent o x a n new
     entered_spent false i k s n new h = inr (inr (subst IsHalt (sym h.0) tt))
     entered_spent true i k s n new h = paid_spent (room_in o.bound x 1) i 1 (suc k) s n new refl (omega arith) h
 
-    free : (i : Inner Holds) (k : ℕ) (s s' : Steps) (c : Coming Work) (n : Next) (new : Held) → answer_weight a ≡ 3 → NotPrint n → comes stays under o x (put_in i x) k s s' c n new → Spent o x a n new
-    free i k s s' c n new wait quiet h = inr (inl (record { used = ap (λ (z : Side). z.used) (comes_side x (put_in i x) k s s' c n new h); waited = wait; quiet = quiet }))
+    free : (i : Inner Holds) (k : ℕ) (s : Steps) (c : Coming Work) (n : Next) (new : Held) → answer_weight a ≡ 3 → NotPrint n → comes stays under o (put_in i x) k s c n new → Spent o x a n new
+    free i k s c n new wait quiet h = inr (inl (record { used = ap (λ (z : Side). z.used) (comes_side (put_in i x) k s c n new h); waited = wait; quiet = quiet }))
 
   gives_quiet : (n : Next) (y : Completion) → GivesBy n y → NotPrint n
   gives_quiet (next.Give g) y h = tt
@@ -185,23 +185,23 @@ module _ (stays : ℕ → Frame → Steps → Type 0) (under : List Frame) (o : 
   halts_halt (next.Print text) y h = absurd h
   halts_halt (next.Give g) y h = absurd h
 
-  opens_spent : (x : Side) (a : Answer) (i : Inner Holds) (k : ℕ) (s s' : Steps) (c : Coming Work) (n : Next) (new : Held) → May a c → Good c → opens stays under o x (put_in i x) k s s' c n new → Spent o x a n new
-  opens_spent x answer.Empty i k s s' (Give y) n new may good h = absurd may
-  opens_spent x answer.Empty i k s s' (Halt y) n new may good h = absurd may
-  opens_spent x answer.Empty i k s s' (Part t) n new may good h = absurd may
-  opens_spent x answer.Empty i k s s' (Use (Line text)) n new may good h = absurd may
-  opens_spent x (answer.Done g) i k s s' (Give y) n new may good h = free x (answer.Done g) i k s s' (Give y) n new refl (gives_quiet n y h.0) h
-  opens_spent x (answer.Done g) i k s s' (Halt y) n new may good h = inr (inr (halts_halt n y h.0))
-  opens_spent x (answer.Done g) i k s s' (Part t) n new may good h = free x (answer.Done g) i k s s' (Part t) n new refl (subst NotPrint (sym h.0) tt) h
-  opens_spent x (answer.Done g) i k s s' (Use (Line text)) n new may good h = absurd may
-  opens_spent x a i k s s' (Use (Charge zero)) n new may good h = absurd good
-  opens_spent x a i k s s' (Use (Charge (suc c))) n new may good h = paid_spent x a (room_in o.bound x (suc c)) i (suc c) k (λ more. s' (Paid ∷ more)) n new refl (omega arith) h
-  opens_spent x a i k s s' (Use Enter) n new may good h = entered_spent x a (may_enter k) i k (λ more. s' (Paid ∷ more)) n new h
-  opens_spent x a i k s s' (Use Ticket) n new may good h = absurd h
-  opens_spent x a i k s s' (Use NewRealm) n new may good h = absurd h
-  opens_spent x a i k s s' (Use (Load name)) n new may good h = absurd h
-  opens_spent x a i k s s' (Use (Tell j y)) n new may good h = absurd h
-  opens_spent x a i k s s' (Use (Ask y)) n new may good h = absurd h
+  opens_spent : (x : Side) (a : Answer) (i : Inner Holds) (k : ℕ) (s : Steps) (c : Coming Work) (n : Next) (new : Held) → May a c → Good c → opens stays under o (put_in i x) k s c n new → Spent o x a n new
+  opens_spent x answer.Empty i k s (Give y) n new may good h = absurd may
+  opens_spent x answer.Empty i k s (Halt y) n new may good h = absurd may
+  opens_spent x answer.Empty i k s (Part t) n new may good h = absurd may
+  opens_spent x answer.Empty i k s (Use (Line text)) n new may good h = absurd may
+  opens_spent x (answer.Done g) i k s (Give y) n new may good h = free x (answer.Done g) i k s (Give y) n new refl (gives_quiet n y h.0) h
+  opens_spent x (answer.Done g) i k s (Halt y) n new may good h = inr (inr (halts_halt n y h.0))
+  opens_spent x (answer.Done g) i k s (Part t) n new may good h = free x (answer.Done g) i k s (Part t) n new refl (subst NotPrint (sym h.0) tt) h
+  opens_spent x (answer.Done g) i k s (Use (Line text)) n new may good h = absurd may
+  opens_spent x a i k s (Use (Charge zero)) n new may good h = absurd good
+  opens_spent x a i k s (Use (Charge (suc c))) n new may good h = paid_spent x a (room_in o.bound x (suc c)) i (suc c) k (λ more. s (Paid ∷ more)) n new refl (omega arith) h
+  opens_spent x a i k s (Use Enter) n new may good h = entered_spent x a (may_enter k) i k (λ more. s (Paid ∷ more)) n new h
+  opens_spent x a i k s (Use Ticket) n new may good h = absurd h
+  opens_spent x a i k s (Use NewRealm) n new may good h = absurd h
+  opens_spent x a i k s (Use (Load name)) n new may good h = absurd h
+  opens_spent x a i k s (Use (Tell j y)) n new may good h = absurd h
+  opens_spent x a i k s (Use (Ask y)) n new may good h = absurd h
 
 module _ (read : Text → Option Script) where
   abbrev pub AllQuiet : Type 0
@@ -223,11 +223,11 @@ module _ (read : Text → Option Script) where
 
     pub step_spent : Ready read old.answer old.side (Waits (place f.calls) task got ∷ ts) → FrameSteps f old n new → Spent old.outer old.side old.answer n new
     step_spent ready h =
-        opens_spent GoesBy old.frames old.outer old.side old.answer first_turn.inner f.calls (given script old.answer) (keeping first_turn.keeps (given script old.answer)) first_turn.next n new (may_of old.answer ready) (good_of old.answer) h
+        opens_spent GoesBy old.frames old.outer old.side old.answer first_turn.inner f.calls (keeping first_turn.keeps (given script old.answer)) first_turn.next n new (may_of old.answer ready) (good_of old.answer) h
 
   pub step_counted : (f : Frame) (old : Held) (n : Next) (new : Held) → FrameSteps f old n new → Counted old.frames n new
   step_counted f old n new h =
       (let x : Side = old.side in
       let s : Steps = given (at_of f.activity f.stage (plain f.kept)) old.answer in
       let t : Turned Work Holds = s [] x.realm in
-      opens_counted GoesBy old.frames old.outer x (put_in t.inner x) f.calls s (keeping t.keeps s) t.next n new h)
+      opens_counted GoesBy old.frames old.outer (put_in t.inner x) f.calls (keeping t.keeps s) t.next n new h)

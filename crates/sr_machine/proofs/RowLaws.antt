@@ -1,8 +1,10 @@
 -- The laws of all rows: no charge of 0, no line right after an outcome, and a payment first.
-use Rattle.std.proofs.Common.{ℕ, ◌++◌, ◌/◌, Bool, true, false, List, [], ◌∷◌, Option, None, Some}
+use Rattle.std.proofs.Common.{ℕ, ◌++◌, ◌/◌, Bool, true, false, map, List, [], ◌∷◌, Option, None, Some}
 use Rattle.sr_ast.specs.declared.tree.Tree.{Tree}
 use Rattle.sr_ast.specs.declared.tree.Declaration.{Declaration, out-Declaration}
-use Rattle.sr_ast.specs.declared.tree.Node.TheOpen as layer
+use Rattle.sr_ast.specs.declared.tree.Element.TheOpen as layer
+use Rattle.sr_ast.specs.declared.operators.Link.{Link}
+use Rattle.sr_ast.specs.declared.operators.Link.TheVariants as link
 use Rattle.sr_ast.specs.declared.operators.BinaryOp.{BinaryOp}
 use Rattle.sr_ast.specs.declared.operators.LogicalOp.{LogicalOp}
 use Rattle.sr_ast.specs.declared.operators.AssignOp.{AssignOp}
@@ -23,8 +25,8 @@ use Rattle.sr_conv.specs.Operators.{operate, operate_one, step_number}
 use Rattle.sr_state.specs.Work.{Work, Steps}
 use Rattle.sr_state.specs.Step.{print_number}
 use Rattle.sr_state.specs.Trees.{value_in, give_value}
-use Rattle.sr_expr.specs.Rows.{give_found, give_name, put_and_give, name_in, in_order, chosen, condition, logical_left, binary_right, binary_left, unary_operand, update_target, assign_value, compound_right, assignment, called, arguments}
-use Rattle.sr_expr.specs.At.{expression_at}
+use Rattle.sr_expr.specs.Rows.{expression_of, give_found, give_name, put_and_give, name_in, in_order, chosen, condition, logical_left, binary_right, binary_left, unary_operand, update_target, assign_value, compound_right, assignment, called, arguments}
+use Rattle.sr_expr.specs.At.{is_built, is_prefix_built, binary_at, unary_at, not_built_at, operator_at, prefix_at, linked_at, expression_at}
 use Rattle.sr_stmt.specs.Rows.{Place, Test, Body, Update, Loop, update_empty, at_test, after_body, declare_one, declare, statements, branch, choice, loop, for_first, accept, source}
 use Rattle.sr_stmt.specs.At.{statement_at}
 use Rattle.sr_call.specs.Rows.{joined, print_line, print_rest}
@@ -92,15 +94,35 @@ module _ (s e : ℕ) where
   calm_called : (vs : List Value) → Calm (called s e vs)
   calm_called vs = calm_part (BuiltIn print_number (Simple Undefined) vs None) _ (λ v. calm_give (Normal v))
 
-  calm_arguments : (ts : List Tree) (vs : List Value) → Calm (arguments s e ts vs)
+  calm_arguments : (ts : List (Option Tree)) (vs : List Value) → Calm (arguments s e ts vs)
   calm_arguments [] vs = calm_called vs
-  calm_arguments (t ∷ ts) vs = calm_part (Run s e t) _ (λ v. calm_arguments ts (vs ++ value_in v ∷ []))
+  calm_arguments (None ∷ ts) vs = calm_throw
+  calm_arguments (Some t ∷ ts) vs = calm_part (Run s e t) _ (λ v. calm_arguments ts (vs ++ value_in v ∷ []))
 
   module _ (at : ℕ) where
-    calm_assign_row : (op : AssignOp) (t b : Tree) → Calm (expression_at s e at (layer.Assign op t b) 0 [])
-    calm_assign_row assign.Plain t b = calm_begin s e at _ (calm_assignment assign.Plain t b)
-    calm_assign_row (assign.Compound op) t b = calm_begin s e at _ (calm_assignment (assign.Compound op) t b)
-    calm_assign_row (assign.Logical op) t b = calm_begin s e at _ (calm_assignment (assign.Logical op) t b)
+    calm_assign_row : (op : AssignOp) (t b : Tree) (named : Bool) → Calm (expression_at s e at (layer.Assign op t b named) 0 [])
+    calm_assign_row assign.Plain t b named = calm_begin s e at _ (calm_assignment assign.Plain t b)
+    calm_assign_row (assign.Compound op) t b named = calm_begin s e at _ (calm_assignment (assign.Compound op) t b)
+    calm_assign_row (assign.Logical op) t b named = calm_begin s e at _ (calm_assignment (assign.Logical op) t b)
+
+    calm_not_built : Calm (not_built_at s e at 0 [])
+    calm_not_built = calm_begin s e at _ calm_throw
+
+    -- a row where it is built, and else what is not built
+    calm_where : (b : Bool) (row : ℕ → List Value → Steps) → Calm (row 0 []) → Calm (either b row (not_built_at s e at) 0 [])
+    calm_where true row h = h
+    calm_where false row h = calm_not_built
+
+    calm_operator : (op : BinaryOp) (a b : Tree) → Calm (operator_at s e at op a b 0 [])
+    calm_operator op a b = calm_where (is_built op) (binary_at s e at op a b) (calm_begin s e at _ (calm_binary op a b))
+
+    calm_prefix : (op : UnaryOp) (a : Tree) → Calm (prefix_at s e at op a 0 [])
+    calm_prefix op a = calm_where (is_prefix_built op) (unary_at s e at op a) (calm_begin s e at _ (calm_unary op a))
+
+    calm_linked : (l : Link) (callee : Tree) (ts : List (Option Tree)) → Calm (linked_at s e at l callee ts 0 [])
+    calm_linked link.Plain callee ts = calm_begin s e at _ (calm_begin s e callee.from _ (calm_arguments ts []))
+    calm_linked link.Optional callee ts = calm_not_built
+    calm_linked link.Chained callee ts = calm_not_built
 
 -- statements
 module _ (s e : ℕ) where
@@ -172,19 +194,20 @@ module _ (s e : ℕ) where
 -- each tree
 calm_layer : (s e at : ℕ) (l : Layer) → Calm (either (is_statement l) (statement_at s e at l) (expression_at s e at l) 0 [])
 calm_layer s e at (layer.Sequence ts) = calm_begin s e at _ (calm_order s e ts (Simple Undefined))
-calm_layer s e at (layer.Assign op t b) = calm_assign_row s e at op t b
+calm_layer s e at (layer.Assign op t b named) = calm_assign_row s e at op t b named
 calm_layer s e at (layer.Cond c a b) = calm_begin s e at _ (calm_condition s e c a b)
 calm_layer s e at (layer.Logical op a b) = calm_begin s e at _ (calm_logical s e op a b)
-calm_layer s e at (layer.Binary op a b) = calm_begin s e at _ (calm_binary s e op a b)
-calm_layer s e at (layer.Unary op a) = calm_begin s e at _ (calm_unary s e op a)
+calm_layer s e at (layer.Binary op a b) = calm_operator s e at op a b
+calm_layer s e at (layer.Unary op a) = calm_prefix s e at op a
 calm_layer s e at (layer.Update op t) = calm_begin s e at _ (calm_update s e op t)
-calm_layer s e at (layer.Call callee ts) = calm_begin s e at _ (calm_begin s e callee.from _ (calm_arguments s e ts []))
+calm_layer s e at (layer.Call l callee xs) = calm_linked s e at l callee (map expression_of xs)
 calm_layer s e at (layer.Name x) = calm_begin s e at _ (calm_name x)
 calm_layer s e at layer.Null = calm_begin s e at _ (calm_value (Simple Null))
 calm_layer s e at (layer.Bool b) = calm_begin s e at _ (calm_value (Simple (Truth b)))
 calm_layer s e at (layer.Num n) = calm_begin s e at _ (calm_value (Simple (Num n)))
 calm_layer s e at (layer.Text text) = calm_begin s e at _ (calm_value (Simple (Str text)))
 calm_layer s e at (layer.Expression t) = calm_begin s e at _ (calm_part (Run s e t) _ (λ v. calm_give (Normal v)))
+calm_layer s e at (layer.Directive t) = calm_begin s e at _ (calm_part (Run s e t) _ (λ v. calm_give (Normal v)))
 calm_layer s e at (layer.Var ds) = calm_begin s e at _ (calm_declare s e ds)
 calm_layer s e at (layer.Block ts) = calm_begin s e at _ (calm_statements s e ts None)
 calm_layer s e at layer.Empty = calm_begin s e at _ (calm_give (Normal None))
@@ -192,6 +215,7 @@ calm_layer s e at (layer.If c a b) = calm_begin s e at _ (calm_choice s e c a b)
 calm_layer s e at (layer.Do body test) = calm_begin s e at _ (calm_loop s e (record { test = Some test; update = None; body = body }) Body (Simple Undefined))
 calm_layer s e at (layer.While test body) = calm_begin s e at _ (calm_loop s e (record { test = Some test; update = None; body = body }) Test (Simple Undefined))
 calm_layer s e at (layer.For first test update body) = calm_begin s e at _ (calm_first s e first _ (calm_loop s e (record { test = test; update = update; body = body }) (at_test test) (Simple Undefined)))
+calm_layer s e at l = calm_not_built s e at
 
 -- the source of a script
 module _ (x : Script) where
@@ -260,26 +284,37 @@ module _ (read : Text → Option Script) where
   pub all_quiet : AllQuiet read
   all_quiet task got o r = (calm_row task).quiet got o r
 
-  begins_assign : (s e at : ℕ) (op : AssignOp) (t b : Tree) (r : Realm Holds) → IsPayment (expression_at s e at (layer.Assign op t b) 0 [] [] r).next
-  begins_assign s e at assign.Plain t b r = tt
-  begins_assign s e at (assign.Compound op) t b r = tt
-  begins_assign s e at (assign.Logical op) t b r = tt
+  begins_assign : (s e at : ℕ) (op : AssignOp) (t b : Tree) (named : Bool) (r : Realm Holds) → IsPayment (expression_at s e at (layer.Assign op t b named) 0 [] [] r).next
+  begins_assign s e at assign.Plain t b named r = tt
+  begins_assign s e at (assign.Compound op) t b named r = tt
+  begins_assign s e at (assign.Logical op) t b named r = tt
+
+  begins_where : (s e at : ℕ) (b : Bool) (row : ℕ → List Value → Steps) (r : Realm Holds) → IsPayment (row 0 [] [] r).next
+      → IsPayment (either b row (not_built_at s e at) 0 [] [] r).next
+  begins_where s e at true row r h = h
+  begins_where s e at false row r h = tt
+
+  begins_linked : (s e at : ℕ) (l : Link) (callee : Tree) (ts : List (Option Tree)) (r : Realm Holds) → IsPayment (linked_at s e at l callee ts 0 [] [] r).next
+  begins_linked s e at link.Plain callee ts r = tt
+  begins_linked s e at link.Optional callee ts r = tt
+  begins_linked s e at link.Chained callee ts r = tt
 
   begins_layer : (s e at : ℕ) (l : Layer) (r : Realm Holds) → IsPayment (either (is_statement l) (statement_at s e at l) (expression_at s e at l) 0 [] [] r).next
   begins_layer s e at (layer.Sequence ts) r = tt
-  begins_layer s e at (layer.Assign op t b) r = begins_assign s e at op t b r
+  begins_layer s e at (layer.Assign op t b named) r = begins_assign s e at op t b named r
   begins_layer s e at (layer.Cond c a b) r = tt
   begins_layer s e at (layer.Logical op a b) r = tt
-  begins_layer s e at (layer.Binary op a b) r = tt
-  begins_layer s e at (layer.Unary op a) r = tt
+  begins_layer s e at (layer.Binary op a b) r = begins_where s e at (is_built op) (binary_at s e at op a b) r tt
+  begins_layer s e at (layer.Unary op a) r = begins_where s e at (is_prefix_built op) (unary_at s e at op a) r tt
   begins_layer s e at (layer.Update op t) r = tt
-  begins_layer s e at (layer.Call callee ts) r = tt
+  begins_layer s e at (layer.Call l callee xs) r = begins_linked s e at l callee (map expression_of xs) r
   begins_layer s e at (layer.Name x) r = tt
   begins_layer s e at layer.Null r = tt
   begins_layer s e at (layer.Bool b) r = tt
   begins_layer s e at (layer.Num n) r = tt
   begins_layer s e at (layer.Text text) r = tt
   begins_layer s e at (layer.Expression t) r = tt
+  begins_layer s e at (layer.Directive t) r = tt
   begins_layer s e at (layer.Var ds) r = tt
   begins_layer s e at (layer.Block ts) r = tt
   begins_layer s e at layer.Empty r = tt
@@ -287,6 +322,7 @@ module _ (read : Text → Option Script) where
   begins_layer s e at (layer.Do body test) r = tt
   begins_layer s e at (layer.While test body) r = tt
   begins_layer s e at (layer.For first test update body) r = tt
+  begins_layer s e at l r = tt
 
   pub all_begin : AllBegin read
   all_begin (Run s e t) k c h r = begins_layer s e t.from (layer_of t) r

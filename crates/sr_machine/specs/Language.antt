@@ -1,7 +1,7 @@
 -- The language that is built: its rows, put together from those of the expressions, the statements and the built-in functions.
 use Rattle.std.specs.Prelude.{ℕ, Bool, true, false, List, [], Option, None, Some}
 use Rattle.sr_ast.specs.declared.tree.Tree.{Tree}
-use Rattle.sr_ast.specs.declared.tree.Node.TheOpen as layer
+use Rattle.sr_ast.specs.declared.tree.Element.TheOpen as layer
 use Rattle.sr_ast.specs.Layer.{Layer, layer_of}
 use Rattle.sr_ast.specs.Script.{Script}
 use Rattle.sr_model.specs.Values.{Text, Value}
@@ -21,9 +21,10 @@ use Rattle.sr_call.specs.Rows.{print}
 use Rattle.sr_call.specs.At.{print_at}
 use Rattle.sr_conv.specs.Reports.{report}
 
--- whether a tree is a statement
+-- whether a tree is a statement that is built. All other trees go by the rules of the expressions, which say what is not built
 abbrev pub is_statement : Layer → Bool
 is_statement (layer.Expression t) = true
+is_statement (layer.Directive t) = true
 is_statement (layer.Var ds) = true
 is_statement (layer.Block ts) = true
 is_statement layer.Empty = true

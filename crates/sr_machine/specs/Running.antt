@@ -73,5 +73,5 @@ thrown_of answer.Empty = None
 thrown_of (answer.Done (completion.Normal v)) = None
 thrown_of (answer.Done (completion.Abrupt (abrupt.Throw v))) = Some (report (value_of v))
 thrown_of (answer.Done (completion.Abrupt (abrupt.Return v))) = None
-thrown_of (answer.Done (completion.Abrupt (abrupt.Break label v))) = None
-thrown_of (answer.Done (completion.Abrupt (abrupt.Continue label v))) = None
+thrown_of (answer.Done (completion.Abrupt (abrupt.Break l))) = None
+thrown_of (answer.Done (completion.Abrupt (abrupt.Continue l))) = None

@@ -132,8 +132,8 @@ impl Live {
                 Ok(Some(report(self.alloc, value)?))
             }
             Answer::Done(Completion::Abrupt(Abrupt::Return(_))) => Ok(None),
-            Answer::Done(Completion::Abrupt(Abrupt::Break(_, _))) => Ok(None),
-            Answer::Done(Completion::Abrupt(Abrupt::Continue(_, _))) => Ok(None),
+            Answer::Done(Completion::Abrupt(Abrupt::Break(_))) => Ok(None),
+            Answer::Done(Completion::Abrupt(Abrupt::Continue(_))) => Ok(None),
             Answer::Done(Completion::Normal(_)) => Ok(None),
             Answer::Empty => Ok(None),
         }
@@ -158,10 +158,10 @@ impl Live {
         if let Some(end) = self.over {
             return answer_to(end);
         }
-        let Some(frame) = self.state.pop() else {
+        let Some(mut frame) = self.state.pop() else {
             return Advance::Done;
         };
-        match step(self.alloc, &mut self.state, frame) {
+        match step(self.alloc, &mut self.state, &mut frame) {
             Err(_) => self.end_by(Ended::Memory),
             Ok(Next::Pushed) => Advance::Going,
             Ok(Next::Give(end)) => {
@@ -218,8 +218,8 @@ fn answer_to(end: Ended) -> Advance
 }
 
 /// Takes a step of a frame, by what it carries out.
-fn step(alloc: Global, state: &mut State, frame: Frame) -> Result<Next, AllocError>
-    ensures { IfOk result (λ next. FrameSteps frame state.old next state.new) }
+fn step(alloc: Global, state: &mut State, frame: &mut Frame) -> Result<Next, AllocError>
+    ensures { IfOk result (λ next. FrameSteps frame.old state.old next state.new) }
 {
     match rules_of(&frame.activity) {
         Rules::Statements => sr_stmt::step(alloc, state, frame),
@@ -245,12 +245,13 @@ fn rules_of(activity: &Activity) -> Rules
     }
 }
 
-/// Whether a tree is a statement.
+/// Whether a tree is a statement that is built.
 fn is_statement(node: &Node) -> bool
     ensures { result ≡ language.is_statement (out-Node node.now) }
 {
     match node {
         Node::Expression(_)
+        | Node::Directive(_)
         | Node::Var(_)
         | Node::Block(_)
         | Node::Empty

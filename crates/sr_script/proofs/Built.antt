@@ -6,16 +6,17 @@ use Rattle.sr_lex.specs.declared.token.LexRefusal.TheVariants.{Syntax}
 use Rattle.sr_lex.specs.Answers.{Refuses}
 use Rattle.sr_lex.specs.Tokens.{Tokens, FailsAt}
 use Rattle.sr_lex.proofs.TextLaws.{one_reading_law, one_failure_law, tokens_or_failure_law}
-use Rattle.sr_lex.proofs.StringsComplete.{one_value_law}
+use Rattle.sr_lex.proofs.StringsComplete.{one_value_law, one_piece_law}
 use Rattle.sr_lex.proofs.NumberLaws.{one_number_law}
 use Rattle.sr_ast.specs.declared.tree.Tree.{Tree}
 use Rattle.sr_ast.specs.Script.{Script}
-use Rattle.sr_parse.specs.declared.refusal.Refusal.{Refusal}
-use Rattle.sr_parse.specs.declared.refusal.Refusal.TheVariants as parse_refusal
+use Rattle.sr_syntax.specs.declared.refusal.Refusal.{Refusal}
+use Rattle.sr_syntax.specs.declared.refusal.Refusal.TheVariants as parse_refusal
 use Rattle.sr_parse.specs.Readings.{ReadsStatements, IsScript, tokens}
 use Rattle.sr_parse.specs.Readings as reading
 use Rattle.sr_parse.specs.Laws as parse
-use Rattle.sr_parse.proofs.OneOutcome.{sorted_once, read_once}
+use Rattle.sr_syntax.proofs.OneSorting.{sorted_once}
+use Rattle.sr_parse.proofs.OneOutcome.{read_once}
 use Rattle.sr_script.specs.Names.{Names, script_names}
 use Rattle.sr_script.specs.Form.{script_fits}
 use Rattle.sr_script.specs.Built.{begins_with_string, HasBody, IsBuilt, OneScript}
@@ -35,7 +36,7 @@ one_built one text x y a b =
     script_is x y body (a.names ∙ (ap script_names body ∙ sym b.names)) (a.units ∙ sym b.units)
 
 read_law : parse.OneScript
-read_law = read_once one_reading_law one_failure_law tokens_or_failure_law (sorted_once one_value_law one_number_law)
+read_law = read_once one_reading_law one_failure_law tokens_or_failure_law (sorted_once one_value_law one_number_law one_piece_law)
 
 -- a text with no tokens is no script
 pub no_tokens : (text : List ℕ) (refusal : LexRefusal) (place : ℕ) → refusal ≡ Syntax place → Refuses text refusal → (x : Script) → ¬ (IsBuilt text x)

@@ -1,11 +1,11 @@
 ghost use Rattle.std.specs.Prelude.{◌≡◌, map};
 ghost use Rattle.std.specs.Option.{option_map};
 ghost use Rattle.sr_script.specs.Form as spec;
-ghost use Rattle.sr_script.specs.Parts.{tree_with, declaration_with, fits_by_parts};
+ghost use Rattle.sr_script.specs.Parts.{tree_with, element_with, declaration_with, fits_by_parts, element_by_parts};
 
 use crate::declared::Names;
 use crate::words::{is, may_declare};
-use sr_ast::{Declaration, Node, Tree};
+use sr_ast::{BinaryOp, Declaration, Element, Link, Node, Tree, UnaryOp};
 use sr_shared::Shared;
 use sr_text::Str;
 
@@ -36,6 +36,36 @@ fn is_declared(names: &Names, tree: &Tree) -> bool
     }
 }
 
+/// Whether an operator between operands is built: neither `in` nor `instanceof`.
+fn is_built(op: BinaryOp) -> bool
+    ensures { result ≡ spec.is_built op }
+{
+    match op {
+        BinaryOp::InstanceOf | BinaryOp::In => false,
+        _ => true,
+    }
+}
+
+/// Whether an operator before an operand is built: not `delete`.
+fn is_prefix_built(op: UnaryOp) -> bool
+    ensures { result ≡ spec.is_prefix_built op }
+{
+    match op {
+        UnaryOp::Delete => false,
+        _ => true,
+    }
+}
+
+/// Whether a call is in no optional chain.
+fn is_plain(link: Link) -> bool
+    ensures { result ≡ spec.is_plain link }
+{
+    match link {
+        Link::Plain => true,
+        Link::Optional | Link::Chained => false,
+    }
+}
+
 /// Whether a tree is of the form, where there is one.
 #[cycle(fits)]
 fn fits_if_there(names: &Names, tree: &Option<Shared<Tree>>) -> bool
@@ -54,6 +84,39 @@ fn all_fit(names: &Names, trees: &[Shared<Tree>]) -> bool
 {
     for tree in trees {
         if !fits(names, tree.get()) {
+            return false;
+        }
+    }
+    true
+}
+
+/// Whether an argument is of the form, by its parts: it is an expression that is.
+#[cycle(fits)]
+fn element_fits(names: &Names, element: &Element) -> bool
+    ensures { result ≡ element_by_parts names.now element.now }
+{
+    match element {
+        Element::Value(tree) => fits(names, tree.get()),
+        Element::Spread(_) | Element::Hole => false,
+    }
+}
+
+/// Whether an argument is of the form.
+#[cycle(fits)]
+#[tactic(auto, using(crate::proofs::Fitting::element_is))]
+fn argument_fits(names: &Names, argument: &Element) -> bool
+    ensures { result ≡ (let f = element_with names.now argument.now in f.1) }
+{
+    element_fits(names, argument)
+}
+
+/// Whether the arguments of a call are of the form.
+#[cycle(fits)]
+fn all_arguments(names: &Names, arguments: &[Element]) -> bool
+    ensures { result ≡ spec.all_fit (map (element_with names.now) arguments.now) }
+{
+    for argument in arguments {
+        if !argument_fits(names, argument) {
             return false;
         }
     }
@@ -88,10 +151,10 @@ fn node_fits(names: &Names, node: &Node) -> bool
 {
     match node {
         Node::Name(name) => may_read(names, name),
-        Node::Call(callee, arguments) => {
-            is_print(callee.get()) && all_fit(names, arguments.as_slice())
+        Node::Call(link, callee, arguments) => {
+            is_plain(*link) && is_print(callee.get()) && all_arguments(names, arguments.as_slice())
         }
-        Node::Assign(_, target, value) => {
+        Node::Assign(_, target, value, _) => {
             is_declared(names, target.get()) && fits(names, value.get())
         }
         Node::Update(_, target) => is_declared(names, target.get()),
@@ -100,10 +163,13 @@ fn node_fits(names: &Names, node: &Node) -> bool
             fits(names, test.get()) && fits(names, yes.get()) && fits(names, no.get())
         }
         Node::Logical(_, left, right) => fits(names, left.get()) && fits(names, right.get()),
-        Node::Binary(_, left, right) => fits(names, left.get()) && fits(names, right.get()),
-        Node::Unary(_, operand) => fits(names, operand.get()),
+        Node::Binary(op, left, right) => {
+            is_built(*op) && fits(names, left.get()) && fits(names, right.get())
+        }
+        Node::Unary(op, operand) => is_prefix_built(*op) && fits(names, operand.get()),
         Node::Null | Node::Bool(_) | Node::Num(_) | Node::Text(_) | Node::Empty => true,
         Node::Expression(inner) => fits(names, inner.get()),
+        Node::Directive(inner) => fits(names, inner.get()),
         Node::Var(declarations) => all_declared(names, declarations.as_slice()),
         Node::Block(statements) => all_fit(names, statements.as_slice()),
         Node::If(test, yes, no) => {
@@ -117,11 +183,12 @@ fn node_fits(names: &Names, node: &Node) -> bool
                 && fits_if_there(names, update)
                 && fits(names, body.get())
         }
+        _ => false,
     }
 }
 
-/// Whether a tree is of the form: it calls `print` and nothing else, reads and writes no name that is not declared, and
-/// declares no name of the global object.
+/// Whether a tree is of the form: it has no tree that is not built, calls `print` and nothing else, reads and writes no name
+/// that is not declared, and declares no name of the global object.
 #[cycle(fits)]
 #[tactic(auto, using(crate::proofs::Fitting::fits_is))]
 fn fits(names: &Names, tree: &Tree) -> bool

@@ -72,6 +72,24 @@ const TEXTS: [(&str, Option<&str>); 62] = [
     ("print('a);", None),
 ];
 
+/// Texts of the grammar that are not built.
+const NOT_BUILT: [&str; 14] = [
+    "var a; 1 in a;",
+    "var a; a instanceof a;",
+    "var a; delete a;",
+    "delete 1;",
+    "print?.(1);",
+    "print(...1);",
+    "print(1, ...1, 2);",
+    "print([]);",
+    "print(`a`);",
+    "new print(1);",
+    "new print;",
+    "var a; a.b;",
+    "var a; a['b'];",
+    "var a; a?.b;",
+];
+
 /// The names that a text declares, each with a comma after it, where it is built.
 fn names_of(alloc: Global, text: &str) -> Result<Option<Vec<u8>>, Fail> {
     let text = Str::from_utf8(alloc, text.as_bytes())?;
@@ -98,6 +116,22 @@ fn reads_scripts(rt: HostRuntime) -> Result<(), Fail> {
             None => assert!(rt; names.is_none(), "of {text:?}"),
         }
     }
+    Ok(())
+}
+
+#[test]
+fn leaves_what_is_not_built(rt: HostRuntime) -> Result<(), Fail> {
+    let alloc = rt.alloc();
+    for text in NOT_BUILT {
+        assert!(rt; names_of(alloc, text)?.is_none(), "of {text:?}");
+    }
+    Ok(())
+}
+
+#[test]
+fn takes_a_directive_after_a_statement(rt: HostRuntime) -> Result<(), Fail> {
+    let alloc = rt.alloc();
+    assert!(rt; names_of(alloc, "var a; 'use strict'; 'a'")?.is_some());
     Ok(())
 }
 

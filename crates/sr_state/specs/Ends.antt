@@ -19,8 +19,8 @@ use Rattle.sr_state.specs.declared.ends.Next.TheVariants as next
 abbrev pub abrupt_of : Abrupt → model.AbruptCompletion
 abrupt_of (abrupt.Throw v) = model.Throw (value_of v)
 abrupt_of (abrupt.Return v) = model.Return (value_of v)
-abrupt_of (abrupt.Break label v) = model.Break label (option_of v)
-abrupt_of (abrupt.Continue label v) = model.Continue label (option_of v)
+abrupt_of (abrupt.Break l) = model.Break l.label (option_of l.value)
+abrupt_of (abrupt.Continue l) = model.Continue l.label (option_of l.value)
 
 -- an end
 abbrev pub completion_of : Completion → model.Completion

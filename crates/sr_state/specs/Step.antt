@@ -79,23 +79,23 @@ module _ (stays : ℕ → Frame → language.Steps → Type 0) (under : List Fra
   abbrev pub Asks : Side → language.Steps → Port → Type 0
   Asks x s p = s [] x.realm ≡ onward (Use p) x.realm
 
-  -- a use of the row, on the side x, that leaves x' and the script s'
-  abbrev pub comes : Side → Side → ℕ → language.Steps → language.Steps → Coming language.Work → Next → Held → Type 0
-  comes x x' k s s' (Give y) n new = GivesBy n y × Left x' new × (new.frames ≡ under)
-  comes x x' k s s' (Halt y) n new = HaltsBy n y × (new.side ≡ x') × (new.outer ≡ o)
-  comes x x' k s s' (Part t) n new = (n ≡ next.Pushed) × Left x' new × OnTwo new.frames (λ c f fs. IsFresh t k c × stays k f s' × (fs ≡ under))
-  comes x x' k s s' (Use (Line text)) n new = (n ≡ next.Print text) × Left x' new × Back k s' new
-  comes x x' k s s' (Use (Charge c)) n new = (n ≡ next.Pushed) × Left x' new × Back k s' new × Asks x' s' (Charge c)
-  comes x x' k s s' (Use Enter) n new = (n ≡ next.Pushed) × Left x' new × Back k s' new × Asks x' s' Enter
-  comes x x' k s s' (Use Ticket) n new = ⊥
-  comes x x' k s s' (Use NewRealm) n new = ⊥
-  comes x x' k s s' (Use (Load name)) n new = ⊥
-  comes x x' k s s' (Use (Tell i y)) n new = ⊥
-  comes x x' k s s' (Use (Ask y)) n new = ⊥
+  -- a use of the row that leaves the side x and the script s
+  abbrev pub comes : Side → ℕ → language.Steps → Coming language.Work → Next → Held → Type 0
+  comes x k s (Give y) n new = GivesBy n y × Left x new × (new.frames ≡ under)
+  comes x k s (Halt y) n new = HaltsBy n y × (new.side ≡ x) × (new.outer ≡ o)
+  comes x k s (Part t) n new = (n ≡ next.Pushed) × Left x new × OnTwo new.frames (λ c f fs. IsFresh t k c × stays k f s × (fs ≡ under))
+  comes x k s (Use (Line text)) n new = (n ≡ next.Print text) × Left x new × Back k s new
+  comes x k s (Use (Charge c)) n new = (n ≡ next.Pushed) × Left x new × Back k s new × Asks x s (Charge c)
+  comes x k s (Use Enter) n new = (n ≡ next.Pushed) × Left x new × Back k s new × Asks x s Enter
+  comes x k s (Use Ticket) n new = ⊥
+  comes x k s (Use NewRealm) n new = ⊥
+  comes x k s (Use (Load name)) n new = ⊥
+  comes x k s (Use (Tell i y)) n new = ⊥
+  comes x k s (Use (Ask y)) n new = ⊥
 
   -- the row is used once more, after a payment
   abbrev pub again : Side → ℕ → language.Steps → Turned language.Work Holds → Next → Held → Type 0
-  again x k s t n new = comes x (put_in t.inner x) k s (keeping t.keeps s) t.next n new
+  again x k s t n new = comes (put_in t.inner x) k (keeping t.keeps s) t.next n new
 
   -- the charge is refused, or it is paid
   abbrev pub paid : Bool → Side → ℕ → ℕ → language.Steps → Next → Held → Type 0
@@ -113,22 +113,22 @@ module _ (stays : ℕ → Frame → language.Steps → Type 0) (under : List Fra
   entered true x k s n new = paid (room_in o.bound x 1) x 1 (suc k) s n new
 
   -- the first use of the row in a step
-  abbrev pub opens : Side → Side → ℕ → language.Steps → language.Steps → Coming language.Work → Next → Held → Type 0
-  opens x x' k s s' (Use (Charge c)) n new = charged x' c k (λ more. s' (Paid ∷ more)) n new
-  opens x x' k s s' (Use Enter) n new = entered (may_enter k) x' k (λ more. s' (Paid ∷ more)) n new
-  opens x x' k s s' (Use (Line text)) n new = comes x x' k s s' (Use (Line text)) n new
-  opens x x' k s s' (Use Ticket) n new = ⊥
-  opens x x' k s s' (Use NewRealm) n new = ⊥
-  opens x x' k s s' (Use (Load name)) n new = ⊥
-  opens x x' k s s' (Use (Tell i y)) n new = ⊥
-  opens x x' k s s' (Use (Ask y)) n new = ⊥
-  opens x x' k s s' (Give y) n new = comes x x' k s s' (Give y) n new
-  opens x x' k s s' (Halt y) n new = comes x x' k s s' (Halt y) n new
-  opens x x' k s s' (Part t) n new = comes x x' k s s' (Part t) n new
+  abbrev pub opens : Side → ℕ → language.Steps → Coming language.Work → Next → Held → Type 0
+  opens x k s (Use (Charge c)) n new = charged x c k (λ more. s (Paid ∷ more)) n new
+  opens x k s (Use Enter) n new = entered (may_enter k) x k (λ more. s (Paid ∷ more)) n new
+  opens x k s (Use (Line text)) n new = comes x k s (Use (Line text)) n new
+  opens x k s (Use Ticket) n new = ⊥
+  opens x k s (Use NewRealm) n new = ⊥
+  opens x k s (Use (Load name)) n new = ⊥
+  opens x k s (Use (Tell i y)) n new = ⊥
+  opens x k s (Use (Ask y)) n new = ⊥
+  opens x k s (Give y) n new = comes x k s (Give y) n new
+  opens x k s (Halt y) n new = comes x k s (Halt y) n new
+  opens x k s (Part t) n new = comes x k s (Part t) n new
 
   -- a step, by the turn of the first use
   abbrev pub goes : Side → ℕ → language.Steps → Turned language.Work Holds → Next → Held → Type 0
-  goes x k s t n new = opens x (put_in t.inner x) k s (keeping t.keeps s) t.next n new
+  goes x k s t n new = opens (put_in t.inner x) k (keeping t.keeps s) t.next n new
 
 -- from old, a step of a frame with this script goes on with it
 abbrev pub Follows : (ℕ → Frame → language.Steps → Type 0) → ℕ → language.Steps → Held → Next → Held → Type 0

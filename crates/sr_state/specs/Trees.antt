@@ -19,7 +19,7 @@ value_in (Some v) = v
 abbrev pub give_value : Value → Steps
 give_value v = give (Normal (Some v))
 
--- An error is thrown. There are no error objects yet, and no program that is built comes to one; the value stands for them.
+-- Where an error object would be thrown, which is not built, the value undefined is thrown.
 abbrev pub throw_error : Steps
 throw_error = give (Abrupt (Throw (Simple Undefined)))
 

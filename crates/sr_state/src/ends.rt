@@ -1,3 +1,4 @@
+use sqlite_items::Boxed;
 use sr_num::NumStop;
 use sr_text::Str;
 use sr_value::Value;
@@ -9,10 +10,19 @@ pub enum Abrupt {
     Throw(Value),
     /// A function returns.
     Return(Value),
-    /// `break`, with its label and the value so far.
-    Break(Option<Str>, Option<Value>),
-    /// `continue`, with its label and the value so far.
-    Continue(Option<Str>, Option<Value>),
+    /// `break`
+    Break(Boxed<Leaving>),
+    /// `continue`
+    Continue(Boxed<Leaving>),
+}
+
+/// What `break` and `continue` carry. It stands behind a pointer, so that the ends that are common take less room.
+#[derive(Debug, Drop)]
+pub struct Leaving {
+    /// The label.
+    pub label: Option<Str>,
+    /// The value so far.
+    pub value: Option<Value>,
 }
 
 /// How a part of an evaluation ends (ECMA-262 6.2.4).

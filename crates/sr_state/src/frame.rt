@@ -37,6 +37,19 @@ pub struct Frame {
 }
 
 impl Frame {
+    /// The frame, taken out of its place. What then stands there is of no use.
+    pub fn take(&mut self, alloc: Global) -> Frame
+        ensures { result ≡ self.old }
+    {
+        let spent = Frame {
+            activity: Activity::BuiltIn(BuiltIn::Print),
+            stage: 0,
+            kept: Items::new(alloc),
+            calls: 0,
+        };
+        std::mem::replace(self, spent)
+    }
+
     /// A frame that begins a tree.
     pub fn fresh(alloc: Global, source: u32, tree: Code, calls: u32) -> Frame
         ensures { result ≡ record { activity = Activity.Tree source tree; stage = 0; kept = []; calls = calls } }

@@ -10,6 +10,6 @@ mod globals;
 /// The state.
 mod state;
 
-pub use ends::{Abrupt, Answer, Charge, Completion, Next, StopName};
+pub use ends::{Abrupt, Answer, Charge, Completion, Leaving, Next, StopName};
 pub use frame::{Activity, BuiltIn, Frame};
 pub use state::State;

@@ -181,6 +181,16 @@ impl State {
         std::mem::replace(&mut self.answer, Answer::Empty)
     }
 
+    /// Takes away what the frame on top is given, where it is given something.
+    pub fn clear_answer(&mut self)
+        ensures { self.new ≡ (let h = self.old in record h { answer = Answer.Empty }) }
+    {
+        match &self.answer {
+            Answer::Empty => (),
+            Answer::Done(_) => self.answer = Answer::Empty,
+        }
+    }
+
     /// Gives the frame on top an answer.
     pub fn put_answer(&mut self, answer: Answer)
         ensures { self.new ≡ (let h = self.old in record h { answer = answer }) }
@@ -193,6 +203,14 @@ impl State {
         ensures { OnOk result (self.new ≡ (let h = self.old in record h { frames = frame ∷ h.frames })) }
     {
         self.frames.push(frame)
+    }
+
+    /// Puts a frame back on top. What then stands in its place is of no use. Steps are given their frame by reference, since a
+    /// move costs time in each function that it goes through; it is moved here alone.
+    pub fn put_back(&mut self, alloc: Global, frame: &mut Frame) -> Result<(), AllocError>
+        ensures { OnOk result (self.new ≡ (let h = self.old in record h { frames = frame.old ∷ h.frames })) }
+    {
+        self.frames.push(frame.take(alloc))
     }
 
     /// Takes the frame on top away.

@@ -2,7 +2,7 @@
 use Rattle.std.specs.Prelude.{ℕ, zero, suc, List, [], ◌∷◌, Option, None, Some, drop}
 use Rattle.sr_ast.specs.declared.tree.Tree.{Tree}
 use Rattle.sr_ast.specs.declared.tree.Declaration.{Declaration}
-use Rattle.sr_ast.specs.declared.tree.Node.TheOpen as layer
+use Rattle.sr_ast.specs.declared.tree.Element.TheOpen as layer
 use Rattle.sr_ast.specs.Layer.{Layer}
 use Rattle.sr_ast.specs.Script.{Script}
 use Rattle.sr_model.specs.Values.{Value}
@@ -72,9 +72,10 @@ module _ (s e at : ℕ) where
   abbrev pub for_at : Option Tree → Option Tree → Option Tree → Tree → ℕ → List Value → Steps
   for_at first test update body = loop_at s e (record { test = test; update = update; body = body }) (for_loop s e at first test update body) (first_at first (for_turns s e test update body))
 
--- a statement, by its kind. What is no statement has no row here
+-- a statement, by its kind. A directive is evaluated as any expression (14.5). What is no statement that is built has no row here
 abbrev pub statement_at : ℕ → ℕ → ℕ → Layer → ℕ → List Value → Steps
 statement_at s e at (layer.Expression t) = expression_at s e at t
+statement_at s e at (layer.Directive t) = expression_at s e at t
 statement_at s e at (layer.Var ds) = variables_at s e at ds
 statement_at s e at (layer.Block ts) = block_at s e at ts
 statement_at s e at layer.Empty = empty_at s e at

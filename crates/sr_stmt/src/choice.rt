@@ -15,19 +15,18 @@ use std::alloc::{AllocError, Global};
 pub(crate) fn choice(
     alloc: Global,
     state: &mut State,
-    frame: Frame,
+    frame: &mut Frame,
     source: u32,
     at: usize,
     test: &Shared<Tree>,
     then: &Shared<Tree>,
     other: Option<&Shared<Tree>>,
 ) -> Result<Next, AllocError>
-    ensures { IfOk result (λ next. StepsBy (choice_at source 0 at test.now then.now (option_copied other.entry)) frame state.old next state.new) }
+    ensures { IfOk result (λ next. StepsBy (choice_at source 0 at test.now then.now (option_copied other.entry)) frame.old state.old next state.new) }
 {
-    let mut frame = frame;
     match frame.stage {
         0 => {
-            state.put_answer(Answer::Empty);
+            state.clear_answer();
             match state.begin(source, at) {
                 Charge::Bound => Ok(state.out_of_steps(1)),
                 Charge::Taken => {
@@ -47,17 +46,16 @@ pub(crate) fn choice(
 fn choose(
     alloc: Global,
     state: &mut State,
-    frame: Frame,
+    frame: &mut Frame,
     source: u32,
     at: usize,
     test: &Shared<Tree>,
     then: &Shared<Tree>,
     other: Option<&Shared<Tree>>,
 ) -> Result<Next, AllocError>
-    requires { frame.stage ≡ 1 }
-    ensures { IfOk result (λ next. StepsBy (choice_at source 0 at test.now then.now (option_copied other.entry)) frame state.old next state.new) }
+    requires { frame.old.stage ≡ 1 }
+    ensures { IfOk result (λ next. StepsBy (choice_at source 0 at test.now then.now (option_copied other.entry)) frame.old state.old next state.new) }
 {
-    let mut frame = frame;
     match state.take_answer() {
         Answer::Empty => push_part(alloc, state, frame, source, test),
         Answer::Done(Completion::Abrupt(x)) => Ok(Next::Give(Completion::Abrupt(x))),
@@ -82,14 +80,14 @@ fn choose(
 fn with_then(
     alloc: Global,
     state: &mut State,
-    frame: Frame,
+    frame: &mut Frame,
     source: u32,
     at: usize,
     then: &Shared<Tree>,
     other: Option<&Shared<Tree>>,
 ) -> Result<Next, AllocError>
-    requires { frame.stage ≡ 2 }
-    ensures { IfOk result (λ next. (c : Tree) → StepsBy (choice_at source 0 at c then.now (option_copied other.entry)) frame state.old next state.new) }
+    requires { frame.old.stage ≡ 2 }
+    ensures { IfOk result (λ next. (c : Tree) → StepsBy (choice_at source 0 at c then.now (option_copied other.entry)) frame.old state.old next state.new) }
 {
     match state.take_answer() {
         Answer::Empty => push_part(alloc, state, frame, source, then),
@@ -104,18 +102,18 @@ fn with_then(
 fn with_else(
     alloc: Global,
     state: &mut State,
-    frame: Frame,
+    frame: &mut Frame,
     source: u32,
     at: usize,
     then: &Shared<Tree>,
     other: Option<&Shared<Tree>>,
 ) -> Result<Next, AllocError>
-    requires { frame.stage ≡ 3 }
-    ensures { IfOk result (λ next. (c : Tree) → StepsBy (choice_at source 0 at c then.now (option_copied other.entry)) frame state.old next state.new) }
+    requires { frame.old.stage ≡ 3 }
+    ensures { IfOk result (λ next. (c : Tree) → StepsBy (choice_at source 0 at c then.now (option_copied other.entry)) frame.old state.old next state.new) }
 {
     match other {
         None => {
-            state.put_answer(Answer::Empty);
+            state.clear_answer();
             Ok(Next::Give(Completion::Normal(Some(Value::Undefined))))
         }
         Some(other) => match state.take_answer() {

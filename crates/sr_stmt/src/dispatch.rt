@@ -19,11 +19,11 @@ use sr_state::{Activity, Frame, Next, State};
 use std::alloc::{AllocError, Global};
 
 /// A step of a frame on top of the stack, of a statement or a script.
-pub fn step(alloc: Global, state: &mut State, frame: Frame) -> Result<Next, AllocError>
-    ensures tree { IfOk result (λ next. (source : ℕ) (t : Tree) → frame.activity ≡ activity.Tree source t
-        → StepsBy (statement_at source 0 t.from (layer_of t)) frame state.old next state.new) }
-    ensures script { IfOk result (λ next. (source : ℕ) (x : Script) → frame.activity ≡ activity.Script source x
-        → ScriptSteps source x frame state.old next state.new) }
+pub fn step(alloc: Global, state: &mut State, frame: &mut Frame) -> Result<Next, AllocError>
+    ensures tree { IfOk result (λ next. (source : ℕ) (t : Tree) → frame.old.activity ≡ activity.Tree source t
+        → StepsBy (statement_at source 0 t.from (layer_of t)) frame.old state.old next state.new) }
+    ensures script { IfOk result (λ next. (source : ℕ) (x : Script) → frame.old.activity ≡ activity.Script source x
+        → ScriptSteps source x frame.old state.old next state.new) }
 {
     match &frame.activity {
         Activity::Tree(source, code) => {
@@ -44,15 +44,16 @@ pub fn step(alloc: Global, state: &mut State, frame: Frame) -> Result<Next, Allo
 fn statement(
     alloc: Global,
     state: &mut State,
-    frame: Frame,
+    frame: &mut Frame,
     source: u32,
     tree: &Tree,
 ) -> Result<Next, AllocError>
-    ensures { IfOk result (λ next. StepsBy (statement_at source 0 tree.now.from (layer_of tree.now)) frame state.old next state.new) }
+    ensures { IfOk result (λ next. StepsBy (statement_at source 0 tree.now.from (layer_of tree.now)) frame.old state.old next state.new) }
 {
     let at = tree.from;
     match &tree.node {
         Node::Expression(e) => expression(alloc, state, frame, source, at, e),
+        Node::Directive(e) => expression(alloc, state, frame, source, at, e),
         Node::Var(ds) => variables(alloc, state, frame, source, at, ds),
         Node::Block(body) => block(alloc, state, frame, source, at, body),
         Node::Empty => empty(state, frame, source, at),

@@ -19,23 +19,22 @@ use std::alloc::{AllocError, Global};
 pub(crate) fn on_list(
     alloc: Global,
     state: &mut State,
-    frame: Frame,
+    frame: &mut Frame,
     source: u32,
     here: Option<&Shared<Tree>>,
     next: Option<&Shared<Tree>>,
 ) -> Result<Next, AllocError>
-    requires { frame.stage + 1 < 2 ^ 32 }
+    requires { frame.old.stage + 1 < 2 ^ 32 }
     ensures { IfOk result (λ after. (ts : List Tree) (at : ℕ → List Value → Steps)
         → option_copied here.entry ≡ head_of ts
         → option_copied next.entry ≡ head_of (tail_of ts)
-        → ((kept : List Value) → at frame.stage kept ≡ statements source 0 ts (kept_value kept))
-        → ((kept : List Value) → at (frame.stage + 1) kept ≡ statements source 0 (tail_of ts) (kept_value kept))
-        → StepsBy at frame state.old after state.new) }
+        → ((kept : List Value) → at frame.old.stage kept ≡ statements source 0 ts (kept_value kept))
+        → ((kept : List Value) → at (frame.old.stage + 1) kept ≡ statements source 0 (tail_of ts) (kept_value kept))
+        → StepsBy at frame.old state.old after state.new) }
 {
-    let mut frame = frame;
     match here {
         None => {
-            state.put_answer(Answer::Empty);
+            state.clear_answer();
             Ok(Next::Give(Completion::Normal(kept_value(frame))))
         }
         Some(here) => match state.take_answer() {
@@ -78,14 +77,15 @@ fn statement_after(statements: &Items<Shared<Tree>>, at: usize) -> Option<&Share
 pub(crate) fn block(
     alloc: Global,
     state: &mut State,
-    frame: Frame,
+    frame: &mut Frame,
     source: u32,
     at: usize,
     statements: &Items<Shared<Tree>>,
 ) -> Result<Next, AllocError>
-    ensures { IfOk result (λ next. StepsBy (block_at source 0 at statements.now) frame state.old next state.new) }
+    ensures { IfOk result (λ next. StepsBy (block_at source 0 at statements.now) frame.old state.old next state.new) }
 {
-    match frame.stage {
+    let stage = frame.stage;
+    match stage {
         0 => block_start(alloc, state, frame, source, at, statements),
         u32::MAX => Err(AllocError),
         _ => block_on(alloc, state, frame, source, at, statements),
@@ -96,16 +96,15 @@ pub(crate) fn block(
 fn block_start(
     alloc: Global,
     state: &mut State,
-    frame: Frame,
+    frame: &mut Frame,
     source: u32,
     at: usize,
     statements: &Items<Shared<Tree>>,
 ) -> Result<Next, AllocError>
-    requires { frame.stage ≡ 0 }
-    ensures { IfOk result (λ next. StepsBy (block_at source 0 at statements.now) frame state.old next state.new) }
+    requires { frame.old.stage ≡ 0 }
+    ensures { IfOk result (λ next. StepsBy (block_at source 0 at statements.now) frame.old state.old next state.new) }
 {
-    let mut frame = frame;
-    state.put_answer(Answer::Empty);
+    state.clear_answer();
     match state.begin(source, at) {
         Charge::Bound => Ok(state.out_of_steps(1)),
         Charge::Taken => match statement(statements, 0) {
@@ -123,14 +122,14 @@ fn block_start(
 fn block_on(
     alloc: Global,
     state: &mut State,
-    frame: Frame,
+    frame: &mut Frame,
     source: u32,
     at: usize,
     statements: &Items<Shared<Tree>>,
 ) -> Result<Next, AllocError>
-    requires low { 0 < frame.stage }
-    requires high { frame.stage + 1 < 2 ^ 32 }
-    ensures { IfOk result (λ next. StepsBy (block_at source 0 at statements.now) frame state.old next state.new) }
+    requires low { 0 < frame.old.stage }
+    requires high { frame.old.stage + 1 < 2 ^ 32 }
+    ensures { IfOk result (λ next. StepsBy (block_at source 0 at statements.now) frame.old state.old next state.new) }
 {
     let place = frame.stage as usize - 1;
     let here = statement(statements, place);

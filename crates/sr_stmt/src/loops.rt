@@ -16,16 +16,15 @@ use std::alloc::{AllocError, Global};
 fn at_test(
     alloc: Global,
     state: &mut State,
-    frame: Frame,
+    frame: &mut Frame,
     source: u32,
     test: Option<&Shared<Tree>>,
     update: Option<&Shared<Tree>>,
     body: &Shared<Tree>,
 ) -> Result<Next, AllocError>
-    requires { frame.stage ≡ 1 }
-    ensures { IfOk result (λ next. (start first : Steps) → StepsBy (loop_at source 0 (record { test = option_copied test.entry; update = option_copied update.entry; body = body.now }) start first) frame state.old next state.new) }
+    requires { frame.old.stage ≡ 1 }
+    ensures { IfOk result (λ next. (start first : Steps) → StepsBy (loop_at source 0 (record { test = option_copied test.entry; update = option_copied update.entry; body = body.now }) start first) frame.old state.old next state.new) }
 {
-    let mut frame = frame;
     match state.take_answer() {
         Answer::Empty => push_part(alloc, state, frame, source, tree_or(test, body)),
         Answer::Done(Completion::Abrupt(x)) => Ok(Next::Give(Completion::Abrupt(x))),
@@ -45,16 +44,15 @@ fn at_test(
 fn at_body(
     alloc: Global,
     state: &mut State,
-    frame: Frame,
+    frame: &mut Frame,
     source: u32,
     test: Option<&Shared<Tree>>,
     update: Option<&Shared<Tree>>,
     body: &Shared<Tree>,
 ) -> Result<Next, AllocError>
-    requires { frame.stage ≡ 2 }
-    ensures { IfOk result (λ next. (start first : Steps) → StepsBy (loop_at source 0 (record { test = option_copied test.entry; update = option_copied update.entry; body = body.now }) start first) frame state.old next state.new) }
+    requires { frame.old.stage ≡ 2 }
+    ensures { IfOk result (λ next. (start first : Steps) → StepsBy (loop_at source 0 (record { test = option_copied test.entry; update = option_copied update.entry; body = body.now }) start first) frame.old state.old next state.new) }
 {
-    let mut frame = frame;
     match state.take_answer() {
         Answer::Empty => push_part(alloc, state, frame, source, body),
         Answer::Done(Completion::Abrupt(x)) => Ok(Next::Give(Completion::Abrupt(x))),
@@ -83,16 +81,15 @@ fn at_body(
 fn at_update(
     alloc: Global,
     state: &mut State,
-    frame: Frame,
+    frame: &mut Frame,
     source: u32,
     test: Option<&Shared<Tree>>,
     update: Option<&Shared<Tree>>,
     body: &Shared<Tree>,
 ) -> Result<Next, AllocError>
-    requires { frame.stage ≡ 3 }
-    ensures { IfOk result (λ next. (start first : Steps) → StepsBy (loop_at source 0 (record { test = option_copied test.entry; update = option_copied update.entry; body = body.now }) start first) frame state.old next state.new) }
+    requires { frame.old.stage ≡ 3 }
+    ensures { IfOk result (λ next. (start first : Steps) → StepsBy (loop_at source 0 (record { test = option_copied test.entry; update = option_copied update.entry; body = body.now }) start first) frame.old state.old next state.new) }
 {
-    let mut frame = frame;
     match state.take_answer() {
         Answer::Empty => push_part(alloc, state, frame, source, tree_or(update, body)),
         Answer::Done(Completion::Abrupt(x)) => Ok(Next::Give(Completion::Abrupt(x))),
@@ -113,15 +110,15 @@ fn at_update(
 fn on(
     alloc: Global,
     state: &mut State,
-    frame: Frame,
+    frame: &mut Frame,
     source: u32,
     test: Option<&Shared<Tree>>,
     update: Option<&Shared<Tree>>,
     body: &Shared<Tree>,
 ) -> Result<Next, AllocError>
-    requires low { 0 < frame.stage }
-    requires high { frame.stage < 4 }
-    ensures { IfOk result (λ next. (start first : Steps) → StepsBy (loop_at source 0 (record { test = option_copied test.entry; update = option_copied update.entry; body = body.now }) start first) frame state.old next state.new) }
+    requires low { 0 < frame.old.stage }
+    requires high { frame.old.stage < 4 }
+    ensures { IfOk result (λ next. (start first : Steps) → StepsBy (loop_at source 0 (record { test = option_copied test.entry; update = option_copied update.entry; body = body.now }) start first) frame.old state.old next state.new) }
 {
     match frame.stage {
         1 => at_test(alloc, state, frame, source, test, update, body),
@@ -134,18 +131,17 @@ fn on(
 pub(crate) fn do_loop(
     alloc: Global,
     state: &mut State,
-    frame: Frame,
+    frame: &mut Frame,
     source: u32,
     at: usize,
     body: &Shared<Tree>,
     test: &Shared<Tree>,
 ) -> Result<Next, AllocError>
-    ensures { IfOk result (λ next. StepsBy (do_at source 0 at body.now test.now) frame state.old next state.new) }
+    ensures { IfOk result (λ next. StepsBy (do_at source 0 at body.now test.now) frame.old state.old next state.new) }
 {
-    let mut frame = frame;
     match frame.stage {
         0 => {
-            state.put_answer(Answer::Empty);
+            state.clear_answer();
             match state.begin(source, at) {
                 Charge::Bound => Ok(state.out_of_steps(1)),
                 Charge::Taken => {
@@ -164,18 +160,17 @@ pub(crate) fn do_loop(
 pub(crate) fn while_loop(
     alloc: Global,
     state: &mut State,
-    frame: Frame,
+    frame: &mut Frame,
     source: u32,
     at: usize,
     test: &Shared<Tree>,
     body: &Shared<Tree>,
 ) -> Result<Next, AllocError>
-    ensures { IfOk result (λ next. StepsBy (while_at source 0 at test.now body.now) frame state.old next state.new) }
+    ensures { IfOk result (λ next. StepsBy (while_at source 0 at test.now body.now) frame.old state.old next state.new) }
 {
-    let mut frame = frame;
     match frame.stage {
         0 => {
-            state.put_answer(Answer::Empty);
+            state.clear_answer();
             match state.begin(source, at) {
                 Charge::Bound => Ok(state.out_of_steps(1)),
                 Charge::Taken => {
@@ -194,7 +189,7 @@ pub(crate) fn while_loop(
 pub(crate) fn for_loop(
     alloc: Global,
     state: &mut State,
-    frame: Frame,
+    frame: &mut Frame,
     source: u32,
     at: usize,
     first: Option<&Shared<Tree>>,
@@ -202,7 +197,7 @@ pub(crate) fn for_loop(
     update: Option<&Shared<Tree>>,
     body: &Shared<Tree>,
 ) -> Result<Next, AllocError>
-    ensures { IfOk result (λ next. StepsBy (for_at source 0 at (option_copied first.entry) (option_copied test.entry) (option_copied update.entry) body.now) frame state.old next state.new) }
+    ensures { IfOk result (λ next. StepsBy (for_at source 0 at (option_copied first.entry) (option_copied test.entry) (option_copied update.entry) body.now) frame.old state.old next state.new) }
 {
     match frame.stage {
         0 => for_start(alloc, state, frame, source, at, first, test, update, body),
@@ -216,7 +211,7 @@ pub(crate) fn for_loop(
 fn for_start(
     alloc: Global,
     state: &mut State,
-    frame: Frame,
+    frame: &mut Frame,
     source: u32,
     at: usize,
     first: Option<&Shared<Tree>>,
@@ -224,11 +219,10 @@ fn for_start(
     update: Option<&Shared<Tree>>,
     body: &Shared<Tree>,
 ) -> Result<Next, AllocError>
-    requires { frame.stage ≡ 0 }
-    ensures { IfOk result (λ next. StepsBy (for_at source 0 at (option_copied first.entry) (option_copied test.entry) (option_copied update.entry) body.now) frame state.old next state.new) }
+    requires { frame.old.stage ≡ 0 }
+    ensures { IfOk result (λ next. StepsBy (for_at source 0 at (option_copied first.entry) (option_copied test.entry) (option_copied update.entry) body.now) frame.old state.old next state.new) }
 {
-    let mut frame = frame;
-    state.put_answer(Answer::Empty);
+    state.clear_answer();
     match state.begin(source, at) {
         Charge::Bound => Ok(state.out_of_steps(1)),
         Charge::Taken => {
@@ -255,7 +249,7 @@ fn for_start(
 fn for_first(
     alloc: Global,
     state: &mut State,
-    frame: Frame,
+    frame: &mut Frame,
     source: u32,
     at: usize,
     first: Option<&Shared<Tree>>,
@@ -263,10 +257,9 @@ fn for_first(
     update: Option<&Shared<Tree>>,
     body: &Shared<Tree>,
 ) -> Result<Next, AllocError>
-    requires { frame.stage ≡ 4 }
-    ensures { IfOk result (λ next. StepsBy (for_at source 0 at (option_copied first.entry) (option_copied test.entry) (option_copied update.entry) body.now) frame state.old next state.new) }
+    requires { frame.old.stage ≡ 4 }
+    ensures { IfOk result (λ next. StepsBy (for_at source 0 at (option_copied first.entry) (option_copied test.entry) (option_copied update.entry) body.now) frame.old state.old next state.new) }
 {
-    let mut frame = frame;
     match first {
         None => Ok(nowhere(state)),
         Some(first) => match state.take_answer() {

@@ -20,15 +20,15 @@ use std::alloc::{AllocError, Global};
 pub(crate) fn push_part(
     alloc: Global,
     state: &mut State,
-    frame: Frame,
+    frame: &mut Frame,
     source: u32,
     part: &Shared<Tree>,
 ) -> Result<Next, AllocError>
     ensures next { IfOk result (λ next. next ≡ Next.Pushed) }
-    ensures state { OnOk result (state.new ≡ (let h = state.old in record h { frames = record { activity = activity.Tree source part.now; stage = 0; kept = []; calls = frame.calls } ∷ frame ∷ h.frames })) }
+    ensures state { OnOk result (state.new ≡ (let h = state.old in record h { frames = record { activity = activity.Tree source part.now; stage = 0; kept = []; calls = frame.old.calls } ∷ frame.old ∷ h.frames })) }
 {
     let calls = frame.calls;
-    state.push(frame)?;
+    state.put_back(alloc, frame)?;
     state.push(Frame::fresh(alloc, source, Code::new(part)?, calls))?;
     Ok(Next::Pushed)
 }
@@ -38,7 +38,7 @@ pub(crate) fn nowhere(state: &mut State) -> Next
     ensures next { result ≡ Next.Give (Completion.Abrupt (Abrupt.Throw Value.Undefined)) }
     ensures state { state.new ≡ (let h = state.old in record h { answer = Answer.Empty }) }
 {
-    state.put_answer(Answer::Empty);
+    state.clear_answer();
     Next::Give(Completion::Abrupt(Abrupt::Throw(Value::Undefined)))
 }
 
@@ -61,14 +61,13 @@ pub(crate) fn holds(value: Option<Value>) -> bool
 }
 
 /// The value that the frame keeps, where it keeps one.
-pub(crate) fn kept_value(frame: Frame) -> Option<Value>
-    ensures { option_of result ≡ at.kept_value (plain frame.kept) }
+pub(crate) fn kept_value(frame: &mut Frame) -> Option<Value>
+    ensures { option_of result ≡ at.kept_value (plain frame.old.kept) }
 {
-    let mut kept = frame.kept;
-    if kept.is_empty() {
+    if frame.kept.is_empty() {
         None
     } else {
-        Some(kept.remove(0))
+        Some(frame.kept.remove(0))
     }
 }
 

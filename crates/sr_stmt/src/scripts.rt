@@ -17,13 +17,12 @@ use std::alloc::{AllocError, Global};
 fn accept(
     alloc: Global,
     state: &mut State,
-    frame: Frame,
+    frame: &mut Frame,
     script: &ScriptCode,
 ) -> Result<Next, AllocError>
     requires { state.old.answer ≡ answer.Empty }
-    ensures { IfOk result (λ next. Accepts script.now frame.calls state.old next state.new) }
+    ensures { IfOk result (λ next. Accepts script.now frame.old.calls state.old next state.new) }
 {
-    let mut frame = frame;
     let source = state.accept(script)?;
     match statement(script, 0) {
         None => Ok(Next::Give(Completion::Normal(None))),
@@ -64,16 +63,15 @@ fn cost_of(script: &ScriptCode) -> u64
 fn script_start(
     alloc: Global,
     state: &mut State,
-    frame: Frame,
+    frame: &mut Frame,
     source: u32,
     script: &ScriptCode,
 ) -> Result<Next, AllocError>
-    requires stage { frame.stage ≡ 0 }
-    requires script { frame.activity ≡ activity.Script source script.now }
-    ensures { IfOk result (λ next. ScriptSteps source script.now frame state.old next state.new) }
+    requires stage { frame.old.stage ≡ 0 }
+    requires script { frame.old.activity ≡ activity.Script source script.now }
+    ensures { IfOk result (λ next. ScriptSteps source script.now frame.old state.old next state.new) }
 {
-    let mut frame = frame;
-    state.put_answer(Answer::Empty);
+    state.clear_answer();
     match state.charge(1) {
         Charge::Bound => Ok(state.out_of_steps(1)),
         Charge::Taken => {
@@ -81,7 +79,7 @@ fn script_start(
                 accept(alloc, state, frame, script)
             } else {
                 frame.stage = 1;
-                state.push(frame)?;
+                state.put_back(alloc, frame)?;
                 Ok(Next::Pushed)
             }
         }
@@ -92,14 +90,14 @@ fn script_start(
 fn script_read(
     alloc: Global,
     state: &mut State,
-    frame: Frame,
+    frame: &mut Frame,
     source: u32,
     script: &ScriptCode,
 ) -> Result<Next, AllocError>
-    requires { frame.stage ≡ 1 }
-    ensures { IfOk result (λ next. ScriptSteps source script.now frame state.old next state.new) }
+    requires { frame.old.stage ≡ 1 }
+    ensures { IfOk result (λ next. ScriptSteps source script.now frame.old state.old next state.new) }
 {
-    state.put_answer(Answer::Empty);
+    state.clear_answer();
     let cost = cost_of(script);
     if cost == 0 {
         accept(alloc, state, frame, script)
@@ -115,14 +113,14 @@ fn script_read(
 fn script_on(
     alloc: Global,
     state: &mut State,
-    frame: Frame,
+    frame: &mut Frame,
     source: u32,
     script: &ScriptCode,
 ) -> Result<Next, AllocError>
-    requires low { 1 < frame.stage }
-    requires high { frame.stage + 1 < 2 ^ 32 }
-    requires script { frame.activity ≡ activity.Script source script.now }
-    ensures { IfOk result (λ next. ScriptSteps source script.now frame state.old next state.new) }
+    requires low { 1 < frame.old.stage }
+    requires high { frame.old.stage + 1 < 2 ^ 32 }
+    requires script { frame.old.activity ≡ activity.Script source script.now }
+    ensures { IfOk result (λ next. ScriptSteps source script.now frame.old state.old next state.new) }
 {
     let place = frame.stage as usize - 2;
     let here = statement(script, place);
@@ -134,14 +132,15 @@ fn script_on(
 pub(crate) fn script(
     alloc: Global,
     state: &mut State,
-    frame: Frame,
+    frame: &mut Frame,
     source: u32,
     script: &ScriptCode,
 ) -> Result<Next, AllocError>
-    requires { frame.activity ≡ activity.Script source script.now }
-    ensures { IfOk result (λ next. ScriptSteps source script.now frame state.old next state.new) }
+    requires { frame.old.activity ≡ activity.Script source script.now }
+    ensures { IfOk result (λ next. ScriptSteps source script.now frame.old state.old next state.new) }
 {
-    match frame.stage {
+    let stage = frame.stage;
+    match stage {
         0 => script_start(alloc, state, frame, source, script),
         1 => script_read(alloc, state, frame, source, script),
         u32::MAX => Err(AllocError),

@@ -12,17 +12,16 @@ use std::alloc::{AllocError, Global};
 pub(crate) fn expression(
     alloc: Global,
     state: &mut State,
-    frame: Frame,
+    frame: &mut Frame,
     source: u32,
     at: usize,
     tree: &Shared<Tree>,
 ) -> Result<Next, AllocError>
-    ensures { IfOk result (λ next. StepsBy (expression_at source 0 at tree.now) frame state.old next state.new) }
+    ensures { IfOk result (λ next. StepsBy (expression_at source 0 at tree.now) frame.old state.old next state.new) }
 {
-    let mut frame = frame;
     match frame.stage {
         0 => {
-            state.put_answer(Answer::Empty);
+            state.clear_answer();
             match state.begin(source, at) {
                 Charge::Bound => Ok(state.out_of_steps(1)),
                 Charge::Taken => {
@@ -42,15 +41,15 @@ pub(crate) fn expression(
 /// A step of the empty statement (14.4).
 pub(crate) fn empty(
     state: &mut State,
-    frame: Frame,
+    frame: &mut Frame,
     source: u32,
     at: usize,
 ) -> Result<Next, AllocError>
-    ensures { IfOk result (λ next. StepsBy (empty_at source 0 at) frame state.old next state.new) }
+    ensures { IfOk result (λ next. StepsBy (empty_at source 0 at) frame.old state.old next state.new) }
 {
     match frame.stage {
         0 => {
-            state.put_answer(Answer::Empty);
+            state.clear_answer();
             match state.begin(source, at) {
                 Charge::Bound => Ok(state.out_of_steps(1)),
                 Charge::Taken => Ok(Next::Give(Completion::Normal(None))),

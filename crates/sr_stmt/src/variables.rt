@@ -19,7 +19,7 @@ use std::alloc::{AllocError, Global};
 fn on_value(
     alloc: Global,
     state: &mut State,
-    frame: Frame,
+    frame: &mut Frame,
     source: u32,
     name: &Str,
     value: &Shared<Tree>,
@@ -27,12 +27,11 @@ fn on_value(
     next: Option<&Shared<Tree>>,
 ) -> Result<Next, AllocError>
     ensures { IfOk result (λ after. (at : ℕ → List Value → Steps) (k : Steps)
-        → ((kept : List Value) → at frame.stage kept ≡ declare_one source 0 name.now (Some value.now) k)
+        → ((kept : List Value) → at frame.old.stage kept ≡ declare_one source 0 name.now (Some value.now) k)
         → ((kept : List Value) → at stage kept ≡ k)
         → BeginsWith source (option_copied next.entry) k
-        → StepsBy at frame state.old after state.new) }
+        → StepsBy at frame.old state.old after state.new) }
 {
-    let mut frame = frame;
     match state.take_answer() {
         Answer::Empty => push_part(alloc, state, frame, source, value),
         Answer::Done(Completion::Abrupt(x)) => Ok(Next::Give(Completion::Abrupt(x))),
@@ -87,12 +86,12 @@ fn stage_at(place: usize) -> Result<u32, AllocError>
 pub(crate) fn variables(
     alloc: Global,
     state: &mut State,
-    frame: Frame,
+    frame: &mut Frame,
     source: u32,
     at: usize,
     declarations: &Items<Declaration>,
 ) -> Result<Next, AllocError>
-    ensures { IfOk result (λ next. StepsBy (variables_at source 0 at declarations.now) frame state.old next state.new) }
+    ensures { IfOk result (λ next. StepsBy (variables_at source 0 at declarations.now) frame.old state.old next state.new) }
 {
     match frame.stage {
         0 => variables_start(alloc, state, frame, source, at, declarations),
@@ -104,25 +103,26 @@ pub(crate) fn variables(
 fn variables_start(
     alloc: Global,
     state: &mut State,
-    frame: Frame,
+    frame: &mut Frame,
     source: u32,
     at: usize,
     declarations: &Items<Declaration>,
 ) -> Result<Next, AllocError>
-    requires { frame.stage ≡ 0 }
-    ensures { IfOk result (λ next. StepsBy (variables_at source 0 at declarations.now) frame state.old next state.new) }
+    requires { frame.old.stage ≡ 0 }
+    ensures { IfOk result (λ next. StepsBy (variables_at source 0 at declarations.now) frame.old state.old next state.new) }
 {
-    let mut frame = frame;
     let place = next_valued(declarations, 0);
     let stage = stage_at(place)?;
-    state.put_answer(Answer::Empty);
+    // A value of its own, so that the prover sees the frame that is put back.
+    let mut waiting = frame.take(alloc);
+    state.clear_answer();
     match state.begin(source, at) {
         Charge::Bound => Ok(state.out_of_steps(1)),
         Charge::Taken => match value(declarations, place) {
             None => Ok(Next::Give(Completion::Normal(None))),
             Some(value) => {
-                frame.stage = stage;
-                push_part(alloc, state, frame, source, value)
+                waiting.stage = stage;
+                push_part(alloc, state, &mut waiting, source, value)
             }
         },
     }
@@ -132,13 +132,13 @@ fn variables_start(
 fn variables_on(
     alloc: Global,
     state: &mut State,
-    frame: Frame,
+    frame: &mut Frame,
     source: u32,
     at: usize,
     declarations: &Items<Declaration>,
 ) -> Result<Next, AllocError>
-    requires { 0 < frame.stage }
-    ensures { IfOk result (λ next. StepsBy (variables_at source 0 at declarations.now) frame state.old next state.new) }
+    requires { 0 < frame.old.stage }
+    ensures { IfOk result (λ next. StepsBy (variables_at source 0 at declarations.now) frame.old state.old next state.new) }
 {
     let place = next_valued(declarations, frame.stage as usize - 1);
     match declarations.get(place) {
@@ -170,6 +170,6 @@ fn declared(state: &mut State) -> Next
     ensures next { result ≡ Next.Give (Completion.Normal None) }
     ensures state { state.new ≡ (let h = state.old in record h { answer = Answer.Empty }) }
 {
-    state.put_answer(Answer::Empty);
+    state.clear_answer();
     Next::Give(Completion::Normal(None))
 }

@@ -5,7 +5,7 @@ use Rattle.sr_state.specs.declared.ends.Completion.TheVariants as completion
 use Rattle.sr_expr.proofs.Steps.{unary_end}
 use Rattle.sr_expr.proofs.unary.unary.Goals as goal
 
-pub returns-in-1 : goal.returns-in-1
-returns-in-1 c =
+pub returns-in_ok-came-in-Done-Normal : goal.returns-in_ok-came-in-Done-Normal
+returns-in_ok-came-in-Done-Normal c =
     let answer : c.args.state.now.answer ≡ answer.Done (completion.Normal c.in-Done-Normal.x) = sym c.take_answer.ensures.answer ∙ c.in-Done-Normal.is ∙ ap answer.Done c.in-Done-Normal.field-0-is in
-    unary_end c.args.source c.args.at c.args.op c.args.operand.now c.args.frame c.args.state.now c.take_answer.new.self _ c.in-Done-Normal.x (operated_of c.in_ok-came-in-Done-Normal.came) c.end_operated.result c.in-1.is answer c.in_ok-came-in-Done-Normal.ensures c.take_answer.ensures.rest c.end_operated.ensures
+    unary_end c.args.source c.args.at c.args.op c.args.operand.now c.args.frame.now c.args.state.now c.take_answer.new.self _ c.in-Done-Normal.x (operated_of c.in_ok-came-in-Done-Normal.came) c.end_operated.result c.in-1.is answer c.in_ok-came-in-Done-Normal.ensures c.take_answer.ensures.rest c.end_operated.ensures

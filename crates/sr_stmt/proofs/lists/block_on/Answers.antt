@@ -7,7 +7,7 @@ use Rattle.sr_stmt.proofs.lists.block_on.Goals as goal
 pub returns : goal.returns
 returns c =
     let ts = c.args.statements.now in
-    let m = c.args.frame.stage in
+    let m = c.args.frame.now.stage in
     lift c.on_list.result _ _
     (λ next h. h (drop (m - 1) ts) (block_at c.args.source 0 c.args.at ts) c.statement-here.ensures c.statement_after-after.ensures
     (λ kept. block_here c.args.source 0 c.args.at ts m kept c.requires.low)

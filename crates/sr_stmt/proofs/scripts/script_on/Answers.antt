@@ -8,9 +8,9 @@ pub returns : goal.returns
 returns c =
     let s = c.args.source in
     let x = c.args.script.now in
-    let m = c.args.frame.stage in
+    let m = c.args.frame.now.stage in
     lift c.on_list.result _ _
-    (λ next h. script_steps s x c.args.frame _ next _ c.requires.script (h (drop (m - 2) x.body) (script_at s x) c.statement-here.ensures c.statement_after-after.ensures
+    (λ next h. script_steps s x c.args.frame.now _ next _ c.requires.script (h (drop (m - 2) x.body) (script_at s x) c.statement-here.ensures c.statement_after-after.ensures
     (λ kept. script_here s x m kept c.requires.low)
     (λ kept. script_next s x m kept c.requires.low)))
     c.on_list.ensures

@@ -6,14 +6,14 @@ use Rattle.sr_stmt.proofs.scripts.script_read.Goals as goal
 pub returns-then-cost-eq0 : goal.returns-then-cost-eq0
 returns-then-cost-eq0 c =
     lift c.accept.result _ _
-    (λ next h. read_accepts c.args.source c.args.script.now c.args.frame c.args.state.now _ next _ c.requires (sym c.cost_of-cost.ensures ∙ c.if-cost-eq0.true) c.put_answer.ensures h)
+    (λ next h. read_accepts c.args.source c.args.script.now c.args.frame.now c.args.state.now _ next _ c.requires (sym c.cost_of-cost.ensures ∙ c.if-cost-eq0.true) c.clear_answer.ensures h)
     c.accept.ensures
 
 pub returns-in-Bound : goal.returns-in-Bound
-returns-in-Bound c = read_refused c.args.source c.args.script.now c.args.frame c.cost_of-cost.result c.args.state.now _ _ _ c.requires (sym c.cost_of-cost.ensures) c.if-cost-eq0.false c.put_answer.ensures c.in-Bound.ensures c.out_of_steps.ensures
+returns-in-Bound c = read_refused c.args.source c.args.script.now c.args.frame.now c.cost_of-cost.result c.args.state.now _ _ _ c.requires (sym c.cost_of-cost.ensures) c.if-cost-eq0.false c.clear_answer.ensures c.in-Bound.ensures c.out_of_steps.ensures
 
 pub returns-in-Taken : goal.returns-in-Taken
 returns-in-Taken c =
     lift c.accept-in-Taken.result _ _
-    (λ next h. read_pays c.args.source c.args.script.now c.args.frame c.cost_of-cost.result c.args.state.now _ _ next _ c.requires (sym c.cost_of-cost.ensures) c.if-cost-eq0.false c.put_answer.ensures c.in-Taken.ensures h)
+    (λ next h. read_pays c.args.source c.args.script.now c.args.frame.now c.cost_of-cost.result c.args.state.now _ _ next _ c.requires (sym c.cost_of-cost.ensures) c.if-cost-eq0.false c.clear_answer.ensures c.in-Taken.ensures h)
     c.accept-in-Taken.ensures

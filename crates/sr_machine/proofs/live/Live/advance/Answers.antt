@@ -23,8 +23,8 @@ returns-in-Ok-Print-clause-write g c = λ e none read.
     at_broken read c.args.self.now.held c.pop.new.self c.step.new.state c.in-Some-pop.frame c.in-Ok-Print.field-0 (sym (ap (λ (r : Running). r.held) c.self.view_is) ∙ c.in-Some-pop.ensures) c.in-Ok-Print.ensures
     c.in-Ok-Print.text (g.O.Sink.written c.args.out.now) (g.O.Sink.written c.print.new.out) c.in-Ok-Print.field-0-is (c.print.ensures.write e).0
 
-pub returns-in-Ok-Halt-clause-stop : goal.returns-in-Ok-Halt-clause-stop
-returns-in-Ok-Halt-clause-stop g c = λ none s e read.
+pub returns-clause-stop : goal.returns-clause-stop
+returns-clause-stop g c = λ none s e read.
     at_stopped read c.args.self.now.held c.pop.new.self c.step.new.state c.in-Some-pop.frame c.in-Ok-Halt.field-0 (sym (ap (λ (r : Running). r.held) c.self.view_is) ∙ c.in-Some-pop.ensures) c.in-Ok-Halt.ensures
     c.in-Ok-Halt.name c.last_source.result c.last_at.result s c.end_by-in-Ok-Halt.result c.end_by-in-Ok-Halt.new.self.held c.in-Ok-Halt.field-0-is (c.last_source.ensures, c.last_at.ensures) c.end_by-in-Ok-Halt.ensures.answer e
     (ap (λ (r : Running). r.held) c.end_by-in-Ok-Halt.ensures.over)
