@@ -1,0 +1,1 @@
+print(1); "use strict"; ("b"); print(2);
