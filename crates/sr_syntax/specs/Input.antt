@@ -1,5 +1,6 @@
 -- What a parser reads from, and the steps that every rule is made of.
-use Rattle.std.specs.Prelude.{◌≡◌, ◌≢◌, ℕ, ◌+◌, ℤ, Bool, true, false, ◌||◌, if◌then◌else◌, nat_lt, List, [], ◌∷◌, length, Option, None, Result, Ok, Err}
+use Rattle.std.specs.Prelude.{◌≡◌, ◌≢◌, ℕ, ◌+◌, ℤ, Bool, true, false, ◌||◌, ◌&&◌, if◌then◌else◌, nat_lt, List, [], ◌∷◌, length, Option, None, Result, Ok, Err}
+use Rattle.std.specs.Str.{bytes_eq}
 use Rattle.sr_ast.specs.declared.tree.Tree.{roll-Tree}
 use Rattle.sr_ast.specs.declared.tree.Node.{Node}
 use Rattle.sr_syntax.specs.declared.sorts.Sort.{Sort}
@@ -59,9 +60,42 @@ abbrev pub number_of : Content → Option ℤ
 number_of (Number value) = value
 number_of _ = None
 
--- whether a token is a name, reserved or not
-abbrev pub is_word : Content → Bool
-is_word (Name units) = true
+-- whether a token is a name, reserved or not (ECMA-262 12.7)
+abbrev pub is_word : Sort → Bool
+is_word k.Identifier = true
+is_word k.Break = true
+is_word k.Case = true
+is_word k.Catch = true
+is_word k.Const = true
+is_word k.Continue = true
+is_word k.Debugger = true
+is_word k.Default = true
+is_word k.Delete = true
+is_word k.Do = true
+is_word k.Else = true
+is_word k.Export = true
+is_word k.False = true
+is_word k.Finally = true
+is_word k.For = true
+is_word k.Function = true
+is_word k.If = true
+is_word k.Import = true
+is_word k.In = true
+is_word k.InstanceOf = true
+is_word k.Let = true
+is_word k.New = true
+is_word k.Null = true
+is_word k.Return = true
+is_word k.Switch = true
+is_word k.This = true
+is_word k.Throw = true
+is_word k.True = true
+is_word k.Try = true
+is_word k.Typeof = true
+is_word k.Var = true
+is_word k.Void = true
+is_word k.While = true
+is_word k.Reserved = true
 is_word _ = false
 
 -- what the next token is
@@ -72,9 +106,21 @@ sort i = sort_at i.rest
 unfoldable pub text : Input → List ℕ
 text i = text_of (content_at i.rest)
 
+abbrev pub ahead_at : List Lexeme → Sort
+ahead_at [] = k.End
+ahead_at (t ∷ ts) = t.ahead
+
+-- what stands behind the next token, or behind the parenthesis that closes it where it opens one
+unfoldable pub ahead : Input → Sort
+ahead i = ahead_at i.rest
+
+-- whether the next token is this name, which is not reserved
+unfoldable pub sees_text : List ℕ → Input → Bool
+sees_text word i = same_sort (sort_at i.rest) k.Identifier && bytes_eq (text_of (content_at i.rest)) word
+
 -- whether the next token is a name, reserved or not
 unfoldable pub sees_word : Input → Bool
-sees_word i = is_word (content_at i.rest)
+sees_word i = is_word (sort i)
 
 -- the value of the number literal that the next token is
 unfoldable pub number : Input → Option ℤ
@@ -153,6 +199,9 @@ eat k = λ i. Ok (sees k i, after k i)
 
 unfoldable pub expect : Sort → Parser (Unit {0})
 expect k = λ i. if sees k i then Ok (tt, next i) else refuse i
+
+unfoldable pub expect_text : List ℕ → Parser (Unit {0})
+expect_text word = λ i. if sees_text word i then Ok (tt, next i) else refuse i
 
 abbrev pub max_depth : ℕ
 max_depth = 1000

@@ -1,6 +1,12 @@
 pub mod Sorts
 pub mod Lexemes
 pub mod Input
+pub mod Operators
+pub mod Bodies
+pub mod Objects
+pub mod Expressions
+pub mod Statements
+pub mod Modules
 pub mod Grammar
 pub mod Cursor
 pub mod Nests

@@ -1,8 +1,8 @@
 ghost use Rattle.std.specs.Prelude.{◌≡◌, IfOk};
-ghost use Rattle.sr_syntax.specs.Grammar as spec;
+ghost use Rattle.sr_syntax.specs.Operators as spec;
 
 use sqlite_items::Items;
-use sr_ast::{Element, Tree};
+use sr_ast::{Case, Element, Property, Tree};
 use sr_shared::Shared;
 use sr_text::Str;
 use std::alloc::{AllocError, Global};
@@ -45,6 +45,35 @@ pub struct Pieces {
     pub tall: usize,
 }
 
+/// The properties of an object literal, in order.
+#[derive(Drop)]
+pub struct Properties {
+    /// The properties.
+    pub items: Items<Property>,
+    /// The greatest depth among their trees.
+    pub tall: usize,
+}
+
+/// `get` or `set`, before the name of an accessor.
+#[derive(Clone, Copy, Debug, PartialEq, Eq)]
+pub enum Accessor {
+    /// `get`
+    Getter,
+    /// `set`
+    Setter,
+}
+
+/// The clauses of a `switch`, in order.
+#[derive(Drop)]
+pub struct Cases {
+    /// The clauses.
+    pub items: Items<Case>,
+    /// The greatest depth among their trees.
+    pub tall: usize,
+    /// Whether one of them is `default`.
+    pub has_default: bool,
+}
+
 /// A tree or nothing.
 #[derive(Drop)]
 pub struct Part {
@@ -59,6 +88,10 @@ pub struct Part {
 pub enum Goal {
     /// A statement.
     Statement,
+    /// A statement or a declaration.
+    Item,
+    /// The same, or an import or an export.
+    ModuleItem,
     /// An assignment or a looser operator's operand.
     Assign,
     /// The same, with no `in` outside of brackets.
@@ -73,7 +106,7 @@ pub enum Goal {
 
 impl Grown {
     /// Where the tree begins.
-    #[tactic(auto, unfolding(crate::specs::Grammar::from_of))]
+    #[tactic(auto, unfolding(crate::specs::Operators::from_of))]
     pub fn from(&self) -> usize
         ensures { result ≡ spec.from_of self.now }
     {
@@ -123,7 +156,7 @@ pub fn part_of(x: Grown) -> Part
 }
 
 /// The greatest of three depths.
-#[tactic(auto, unfolding(crate::specs::Grammar::tallest))]
+#[tactic(auto, unfolding(crate::specs::Operators::tallest))]
 pub fn tallest(a: usize, b: usize, c: usize) -> usize
     ensures { result ≡ spec.tallest a b c }
 {

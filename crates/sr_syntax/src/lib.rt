@@ -2,14 +2,18 @@
 //! definition stands in `specs/` (ECMA-262 13, 14).
 #![tactic(auto)]
 
+/// Parameters, and where arrow functions begin.
+pub mod bodies;
 /// What rules give.
 pub mod grown;
 /// The laws of the definitions.
 pub mod laws;
 /// Tokens with what the grammar asks of them.
 pub mod lexemes;
-/// Names.
+/// Names, and those that are bound.
 pub mod names;
+/// The keys of object literals.
+pub mod objects;
 /// The operators, and what is asked of the trees beside them.
 pub mod operators;
 /// Why a text has no tree.

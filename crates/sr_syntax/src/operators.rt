@@ -1,5 +1,5 @@
 ghost use Rattle.std.specs.Prelude.{◌≡◌};
-ghost use Rattle.sr_syntax.specs.Grammar as spec;
+ghost use Rattle.sr_syntax.specs.Operators as spec;
 ghost use Rattle.sr_ast.specs.Layer.{layer_of};
 
 use crate::grown::Grown;
@@ -25,7 +25,7 @@ pub fn prefix(sort: Sort) -> Option<UnaryOp>
 }
 
 /// Whether an operator stands before its operand.
-#[tactic(auto, unfolding(crate::specs::Grammar::is_prefix))]
+#[tactic(auto, unfolding(crate::specs::Operators::is_prefix))]
 pub fn is_prefix(sort: Sort) -> bool
     ensures { result ≡ spec.is_prefix sort }
 {
@@ -115,7 +115,7 @@ fn admits(has_in: bool, sort: Sort) -> bool
 }
 
 /// Whether an operator stands in a row, where `in` is one or is none.
-#[tactic(auto, unfolding(crate::specs::Grammar::is_in))]
+#[tactic(auto, unfolding(crate::specs::Operators::is_in))]
 pub fn is_in(has_in: bool, level: u8, sort: Sort) -> bool
     ensures { result ≡ spec.is_in has_in level sort }
 {
@@ -156,7 +156,7 @@ pub fn joined_node(sort: Sort, x: Shared<Tree>, y: Shared<Tree>) -> Node
 }
 
 /// Whether an assignment to it can be written. Parentheses around it make no tree (13.15.1).
-#[tactic(auto, unfolding(crate::specs::Grammar::is_target))]
+#[tactic(auto, unfolding(crate::specs::Operators::is_target))]
 pub fn is_target(of: &Grown) -> bool
     ensures { result ≡ spec.is_target of.now }
 {
@@ -179,7 +179,7 @@ fn is_name(of: &Grown) -> bool
 }
 
 /// Whether a target, of an assignment that begins at this place, gives its name to a function (13.15.2).
-#[tactic(auto, unfolding(crate::specs::Grammar::gives_name))]
+#[tactic(auto, unfolding(crate::specs::Operators::gives_name))]
 pub fn gives_name(from: usize, of: &Grown) -> bool
     ensures { result ≡ spec.gives_name from of.now }
 {
@@ -187,7 +187,7 @@ pub fn gives_name(from: usize, of: &Grown) -> bool
 }
 
 /// Whether it is a `new` without arguments (13.3.5).
-#[tactic(auto, unfolding(crate::specs::Grammar::is_bare_new))]
+#[tactic(auto, unfolding(crate::specs::Operators::is_bare_new))]
 pub fn is_bare_new(of: &Grown) -> bool
     ensures { result ≡ spec.is_bare_new of.now }
 {
@@ -205,7 +205,7 @@ pub fn link_in(in_chain: bool) -> Link
 }
 
 /// A statement of an expression, where the statement begins at this place (14.5).
-#[tactic(auto, unfolding(crate::specs::Grammar::statement_node))]
+#[tactic(auto, unfolding(crate::specs::Operators::statement_node))]
 pub fn statement_node(from: usize, x: Grown) -> Node
     ensures { result ≡ spec.statement_node from x }
 {
@@ -249,7 +249,7 @@ pub fn part(has_optional: bool, sort: Sort) -> PartSort
 }
 
 /// The operator of an assignment, where one stands behind a target.
-#[tactic(auto, unfolding(crate::specs::Grammar::assigns))]
+#[tactic(auto, unfolding(crate::specs::Operators::assigns))]
 pub fn assigns(of: &Grown, tokens: &Tokens<'_>) -> Option<AssignOp>
     ensures { result ≡ spec.assigns of.now tokens.now }
 {
@@ -261,7 +261,7 @@ pub fn assigns(of: &Grown, tokens: &Tokens<'_>) -> Option<AssignOp>
 }
 
 /// `++` or `--`, where one stands behind a target and on its line.
-#[tactic(auto, unfolding(crate::specs::Grammar::steps))]
+#[tactic(auto, unfolding(crate::specs::Operators::steps))]
 pub fn steps(of: &Grown, tokens: &Tokens<'_>) -> Option<UpdateOp>
     ensures { result ≡ spec.steps of.now tokens.now }
 {

@@ -233,6 +233,8 @@ pub struct Lexeme {
     pub to: usize,
     /// Whether a line end stands before it.
     pub line_before: bool,
+    /// What stands behind it; for a `(`, what stands behind the parenthesis that closes it.
+    pub ahead: Sort,
 }
 
 /// Whether two sorts are the same.

@@ -1,13 +1,58 @@
 ghost use Rattle.std.specs.Prelude.{◌≡◌, ◌+◌, IfOk, []};
+ghost use Rattle.std.specs.Str.{bytes_eq};
 ghost use Rattle.sr_syntax.specs.Input as spec;
 ghost use Rattle.sr_syntax.specs.Input.{Reads};
 
 use crate::refusal::Refusal;
 use crate::sorts::{Content, Lexeme, Sort, same_sort};
+use crate::words::is;
 use sr_num::Num;
 use sr_text::{Str, TextRefusal};
 use std::alloc::{AllocError, Global};
 use std::marker::Model;
+
+/// Whether a token is a name, reserved or not (12.7).
+pub fn is_word(sort: Sort) -> bool
+    ensures { result ≡ spec.is_word sort }
+{
+    match sort {
+        Sort::Identifier => true,
+        Sort::Break => true,
+        Sort::Case => true,
+        Sort::Catch => true,
+        Sort::Const => true,
+        Sort::Continue => true,
+        Sort::Debugger => true,
+        Sort::Default => true,
+        Sort::Delete => true,
+        Sort::Do => true,
+        Sort::Else => true,
+        Sort::Export => true,
+        Sort::False => true,
+        Sort::Finally => true,
+        Sort::For => true,
+        Sort::Function => true,
+        Sort::If => true,
+        Sort::Import => true,
+        Sort::In => true,
+        Sort::InstanceOf => true,
+        Sort::Let => true,
+        Sort::New => true,
+        Sort::Null => true,
+        Sort::Return => true,
+        Sort::Switch => true,
+        Sort::This => true,
+        Sort::Throw => true,
+        Sort::True => true,
+        Sort::Try => true,
+        Sort::Typeof => true,
+        Sort::Var => true,
+        Sort::Void => true,
+        Sort::While => true,
+        Sort::Reserved => true,
+        _ => false,
+    }
+}
 
 /// The tokens of a text, from one of them on.
 #[derive(Drop)]
@@ -184,10 +229,39 @@ impl<'a> Tokens<'a> {
     pub fn sees_word(&self) -> bool
         ensures { result ≡ spec.sees_word self.now }
     {
+        is_word(self.peek())
+    }
+
+    /// Whether the next token holds this text.
+    fn is(&self, word: &[u8]) -> bool
+        ensures { result ≡ bytes_eq (spec.text_of (spec.content_at self.now.rest)) word.now }
+    {
         match self.rest {
-            [] => false,
-            [token, ..] => matches!(token.content, Content::Name(_)),
+            [] => is(&[], word),
+            [token, ..] => match &token.content {
+                Content::Name(text) | Content::Text(text) => is(text.units(), word),
+                Content::Number(_) | Content::Nothing => is(&[], word),
+            },
         }
+    }
+
+    /// What stands behind the next token; for a `(`, what stands behind the parenthesis that closes it.
+    #[tactic(auto, unfolding(crate::specs::Input::ahead))]
+    pub fn ahead(&self) -> Sort
+        ensures { result ≡ spec.ahead self.now }
+    {
+        match self.rest {
+            [] => Sort::End,
+            [token, ..] => token.ahead,
+        }
+    }
+
+    /// Whether the next token is this name, which is not reserved.
+    #[tactic(auto, unfolding(crate::specs::Input::sees_text, crate::specs::Input::sort))]
+    pub fn sees_text(&self, word: &[u8]) -> bool
+        ensures { result ≡ spec.sees_text word.now self.now }
+    {
+        same_sort(self.peek(), Sort::Identifier) && self.is(word)
     }
 
     /// Takes this token if it comes next, and answers whether it did.
@@ -209,6 +283,19 @@ impl<'a> Tokens<'a> {
         ensures { Reads (spec.expect sort self.old) result self.new }
     {
         if self.sees(sort) {
+            self.take();
+            Ok(())
+        } else {
+            Err(self.refuse())
+        }
+    }
+
+    /// Takes this name, which has to come next.
+    #[tactic(auto, unfolding(crate::specs::Input::expect_text))]
+    pub fn expect_text(&mut self, word: &[u8]) -> Result<(), Refusal>
+        ensures { Reads (spec.expect_text word.now self.old) result self.new }
+    {
+        if self.sees_text(word) {
             self.take();
             Ok(())
         } else {

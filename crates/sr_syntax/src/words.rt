@@ -115,7 +115,7 @@ const PUNCTUATORS: [(&[u8], Sort); 57] = [
 ];
 
 /// Whether the units are these characters.
-fn is(units: &[u16], text: &[u8]) -> bool
+pub(crate) fn is(units: &[u16], text: &[u8]) -> bool
     ensures { result ≡ bytes_eq units.now text.now }
 {
     match units {
