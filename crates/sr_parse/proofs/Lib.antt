@@ -1,4 +1,2 @@
-pub mod Turns
-pub mod Rows
 pub mod Outcomes
 pub mod OneOutcome

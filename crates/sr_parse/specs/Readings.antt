@@ -9,7 +9,7 @@ use Rattle.sr_syntax.specs.declared.refusal.Refusal.TheVariants.{Syntax}
 use Rattle.sr_syntax.specs.declared.grown.Grown.{Grown}
 use Rattle.sr_syntax.specs.Lexemes.{Lexemes}
 use Rattle.sr_syntax.specs.Input.{Outcome, Parser, left, start}
-use Rattle.sr_syntax.specs.Grammar.{script_of}
+use Rattle.sr_syntax.specs.Grammar.{script_of, module_of}
 
 -- the tree that was read, and the number of the first of so many tokens that is left
 abbrev pub tree_and_number : ℕ → Outcome Grown → Result (Tree × ℕ) Refusal
@@ -23,12 +23,30 @@ ReadsAs rule text tokens from outcome =
     (ls : List Lexeme) × Lexemes text (drop from tokens) ls
     × (tree_and_number (length tokens) (rule (start ls (length text))) ≡ outcome)
 
--- The tokens of the text are read as these statements, or are refused.
-abbrev pub ReadsStatements : List ℕ → List Token → Result (List Tree) Refusal → Type 0
-ReadsStatements text ts outcome = (ls : List Lexeme) × Lexemes text ts ls × (script_of ls (length text) ≡ outcome)
+-- what the tokens of a whole text, of this length, are
+abbrev pub Whole : Type 0
+Whole = List Lexeme → ℕ → Result (List Tree) Refusal
 
--- A whole text is read as these statements, or refused where it has no tokens or the grammar goes on with none of them.
-pub data IsScript : List ℕ → Result (List Tree) Refusal → Type 0 where
-  no_tokens : {text : List ℕ} {place : ℕ} → FailsAt text place → IsScript text (Err (Syntax place))
+-- The tokens of the text are read as these items, or are refused.
+abbrev pub ReadsWhole : Whole → List ℕ → List Token → Result (List Tree) Refusal → Type 0
+ReadsWhole whole text ts outcome = (ls : List Lexeme) × Lexemes text ts ls × (whole ls (length text) ≡ outcome)
+
+-- as a script, and as a module
+abbrev pub ReadsStatements : List ℕ → List Token → Result (List Tree) Refusal → Type 0
+ReadsStatements = ReadsWhole script_of
+
+abbrev pub ReadsModule : List ℕ → List Token → Result (List Tree) Refusal → Type 0
+ReadsModule = ReadsWhole module_of
+
+-- A whole text is read as these items, or refused where it has no tokens or the grammar goes on with none of them.
+pub data IsWhole (whole : Whole) : List ℕ → Result (List Tree) Refusal → Type 0 where
+  no_tokens : {text : List ℕ} {place : ℕ} → FailsAt text place → IsWhole whole text (Err (Syntax place))
   tokens : {text : List ℕ} {ts : List Token} {ls : List Lexeme} {outcome : Result (List Tree) Refusal}
-      → Tokens text ts → Lexemes text ts ls → script_of ls (length text) ≡ outcome → IsScript text outcome
+      → Tokens text ts → Lexemes text ts ls → whole ls (length text) ≡ outcome → IsWhole whole text outcome
+
+-- as a script, and as a module
+abbrev pub IsScript : List ℕ → Result (List Tree) Refusal → Type 0
+IsScript = IsWhole script_of
+
+abbrev pub IsModule : List ℕ → Result (List Tree) Refusal → Type 0
+IsModule = IsWhole module_of

@@ -1,18 +1,16 @@
-//! Expressions and statements (ECMA-262 13, 14).
+//! Whole scripts and modules, and what they are made of (ECMA-262 13 to 16).
 #![tactic(auto)]
 
-/// Expressions.
-mod expressions;
-/// What the rules of the grammar are made of.
+/// The parser of what is open while it is read.
 mod grammar;
 /// The laws of the definitions.
 pub mod laws;
 /// The trees of a text.
 mod reading;
-/// Statements.
-mod statements;
 
-pub use reading::{parse_expr, parse_item, parse_script, parse_statements};
+pub use reading::{
+    parse_expr, parse_item, parse_module, parse_module_items, parse_script, parse_statements,
+};
 pub use sr_syntax::refusal::Refusal;
 
 #[cfg(test)]

@@ -3,12 +3,13 @@ ghost use Rattle.sr_lex.specs.Tokens.{IsTokenOf};
 ghost use Rattle.sr_syntax.specs.declared.refusal.Refusal.TheVariants.{Memory};
 ghost use Rattle.sr_syntax.specs.Input.{Reads, start};
 ghost use Rattle.sr_syntax.specs.Grammar as spec;
-ghost use Rattle.sr_parse.specs.Readings.{ReadsAs, ReadsStatements, IsScript};
+ghost use Rattle.sr_parse.specs.Readings.{ReadsAs, ReadsStatements, IsScript, ReadsModule, IsModule};
 
-use crate::grammar::{Grammar, tree};
+use crate::grammar::tree;
 use sqlite_items::Items;
 use sr_ast::Tree;
 use sr_lex::{Token, lex};
+use sr_parse_expr::grammar::Grammar;
 use sr_shared::Shared;
 use sr_syntax::grown::{Goal, Grown};
 use sr_syntax::lexemes::lexemes;
@@ -34,15 +35,23 @@ fn expression(alloc: Global, tokens: &mut Tokens<'_>) -> Result<Grown, Refusal>
     .expression(tokens, true)
 }
 
-/// A statement.
+/// An item of a script.
 #[tactic(auto, unfolding(sr_syntax::specs::Grammar::whole_item))]
 fn item(alloc: Global, tokens: &mut Tokens<'_>) -> Result<Grown, Refusal>
     ensures { Reads (spec.whole_item tokens.old) result tokens.new }
 {
-    tree(alloc, tokens, MAX_OPEN, Goal::Statement)
+    tree(alloc, tokens, MAX_OPEN, Goal::Item)
 }
 
-/// Statements to the end of the text (ECMA-262 16.1).
+/// An item of a module.
+#[tactic(auto, unfolding(sr_syntax::specs::Grammar::whole_module_item))]
+fn module_item(alloc: Global, tokens: &mut Tokens<'_>) -> Result<Grown, Refusal>
+    ensures { Reads (spec.whole_module_item tokens.old) result tokens.new }
+{
+    tree(alloc, tokens, MAX_OPEN, Goal::ModuleItem)
+}
+
+/// Items to the end of the text (ECMA-262 16.1).
 #[tactic(auto, unfolding(sr_syntax::specs::Grammar::script, sr_syntax::specs::Grammar::script_from))]
 fn script(alloc: Global, tokens: &mut Tokens<'_>) -> Result<Items<Shared<Tree>>, Refusal>
     ensures { Reads (spec.script tokens.old) result tokens.new }
@@ -53,6 +62,21 @@ fn script(alloc: Global, tokens: &mut Tokens<'_>) -> Result<Items<Shared<Tree>>,
             return Ok(found);
         }
         found.push(item(alloc, tokens)?.tree)?;
+    }
+    Err(tokens.refuse())
+}
+
+/// Items, imports and exports to the end of the text (16.2).
+#[tactic(auto, unfolding(sr_syntax::specs::Grammar::module_items, sr_syntax::specs::Grammar::module_from))]
+fn module_items(alloc: Global, tokens: &mut Tokens<'_>) -> Result<Items<Shared<Tree>>, Refusal>
+    ensures { Reads (spec.module_items tokens.old) result tokens.new }
+{
+    let mut found = Items::new(alloc);
+    for _turn in 0..tokens.turns() {
+        if same_sort(tokens.peek(), Sort::End) {
+            return Ok(found);
+        }
+        found.push(module_item(alloc, tokens)?.tree)?;
     }
     Err(tokens.refuse())
 }
@@ -76,7 +100,7 @@ pub fn parse_expr(
     Ok((read.tree, tokens.len().saturating_sub(cursor.left())))
 }
 
-/// The statement that the tokens of the text are from one of them on, and the number of the first token after it (14). It
+/// The statement or declaration that the tokens of the text are from one of them on, and the number of the first token after it (14). It
 /// refuses as `parse_expr` does.
 pub fn parse_item(
     alloc: Global,
@@ -94,7 +118,7 @@ pub fn parse_item(
     Ok((read.tree, tokens.len().saturating_sub(cursor.left())))
 }
 
-/// The statements that the tokens of the text are (16.1). `Syntax` names the start of the first token that cannot continue,
+/// The statements and declarations of the script that the tokens of the text are (16.1). `Syntax` names the start of the first token that cannot continue,
 /// and `TooDeep` comes as in `parse_expr`.
 pub fn parse_statements(
     alloc: Global,
@@ -108,11 +132,32 @@ pub fn parse_statements(
     script(alloc, &mut Tokens::new(&lexemes, text.units().len()))
 }
 
-/// The statements that the text is (16.1). `Syntax` names the first place at which the text has no token, or else the start
+/// The statements and declarations of the script that the text is (16.1). `Syntax` names the first place at which the text has no token, or else the start
 /// of the first token that cannot continue.
 pub fn parse_script(alloc: Global, text: &Str) -> Result<Items<Shared<Tree>>, Refusal>
     ensures { result ≢ Err Memory → IsScript text.now result }
 {
     let tokens = lex(alloc, text)?;
     parse_statements(alloc, text, &tokens)
+}
+
+/// The items of the module that the tokens of the text are (16.2). It refuses as `parse_statements` does.
+pub fn parse_module_items(
+    alloc: Global,
+    text: &Str,
+    tokens: &[Token],
+) -> Result<Items<Shared<Tree>>, Refusal>
+    requires { All (IsTokenOf text.now) tokens.now }
+    ensures { result ≢ Err Memory → ReadsModule text.now tokens.now result }
+{
+    let lexemes = lexemes(alloc, text, tokens)?;
+    module_items(alloc, &mut Tokens::new(&lexemes, text.units().len()))
+}
+
+/// The items of the module that the text is (16.2). It refuses as `parse_script` does.
+pub fn parse_module(alloc: Global, text: &Str) -> Result<Items<Shared<Tree>>, Refusal>
+    ensures { result ≢ Err Memory → IsModule text.now result }
+{
+    let tokens = lex(alloc, text)?;
+    parse_module_items(alloc, text, &tokens)
 }

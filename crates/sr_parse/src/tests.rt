@@ -1,4 +1,6 @@
 use crate::{Refusal, parse_expr, parse_item, parse_script};
+use functions::{function_head, function_part};
+use items::{before_item, item_head, item_part, most_item_parts};
 use sr_ast::{Declaration, Element, Link, Node, Tree};
 use sr_lex::lex;
 use sr_shared::Shared;
@@ -6,6 +8,11 @@ use sr_text::Str;
 use std::alloc::{AllocError, Global};
 use std::fmt::Write;
 use std::test::Fail;
+
+/// Functions and objects in expressions.
+mod functions;
+/// Statements, imports and exports.
+mod items;
 
 /// Texts, and their statements or the place of failure. A tree with parts stands in parentheses.
 const OPERATORS: [(&str, &str); 23] = [
@@ -106,9 +113,9 @@ const TOKENS: [(&str, &str); 23] = [
     ),
     ("'' + \"\"", "(expression (Add '' ''))"),
     ("class", "fails at 0"),
-    ("let a", "fails at 0"),
+    ("let 1", "fails at 4"),
     ("a.", "fails at 2"),
-    ("a => b", "fails at 2"),
+    ("a\n=> b", "fails at 2"),
     ("()", "fails at 1"),
     ("(a", "fails at 2"),
     ("a)", "fails at 1"),
@@ -150,9 +157,9 @@ const STATEMENTS: [(&str, &str); 21] = [
     ("for (a\nb; c) ;", "fails at 7"),
     ("for (var a\nb; c) ;", "fails at 11"),
     ("for (;\n) ;", "fails at 7"),
-    ("for (var a in b) ;", "fails at 11"),
+    ("for (var a in b)", "fails at 16"),
     ("for (;;)", "fails at 8"),
-    ("function f() {}", "fails at 0"),
+    ("while (a) function f() {}", "fails at 10"),
 ];
 
 /// The same, of properties, optional chains and `new`.
@@ -216,7 +223,7 @@ const ELEMENTS: [(&str, &str); 24] = [
 
 /// The same, of `in` in the head of a `for`, and of string literals as statements.
 const HEADS: [(&str, &str); 14] = [
-    ("for (a in b; ;) ;", "fails at 7"),
+    ("for (a in b; ;) ;", "fails at 11"),
     ("for (var i = a in b; ;) ;", "fails at 15"),
     ("for (x = a ? b : c in d; ;) ;", "fails at 19"),
     (
@@ -281,7 +288,7 @@ const TEMPLATES: [(&str, &str); 17] = [
 ];
 
 /// Texts of one statement, and the places of its tree and of its first part.
-const PLACES: [(&str, usize, usize, usize, usize); 11] = [
+const PLACES: [(&str, usize, usize, usize, usize); 16] = [
     (" a + b ;", 1, 8, 1, 6),
     ("(a) + b", 1, 7, 1, 7),
     ("((a), b)", 2, 8, 2, 7),
@@ -293,16 +300,24 @@ const PLACES: [(&str, usize, usize, usize, usize); 11] = [
     ("(a)[b];", 1, 7, 1, 6),
     (" new (a)", 1, 8, 1, 8),
     ("[a]", 0, 3, 0, 3),
+    (" return a ;", 1, 11, 8, 9),
+    ("a: b\n", 0, 4, 3, 4),
+    ("try { } finally { }", 0, 19, 4, 7),
+    ("for (let a of b) c;", 0, 19, 14, 15),
+    ("switch (a) { }", 0, 14, 8, 9),
 ];
 
 /// An opening, a middle and a closing text, and how often the outer two may stand around the middle one.
-const LIMITS: [(&str, &str, &str, u32); 10] = [
+const LIMITS: [(&str, &str, &str, u32); 13] = [
     ("(", "a", ")", 332),
     ("{", "", "}", 1000),
     ("!", "a", "", 996),
     ("a+", "a", "", 998),
     ("a=", "a", "", 996),
     ("if(a)", ";", "", 997),
+    ("a:", ";", "", 999),
+    ("try{", "", "}finally{}", 500),
+    ("switch(a){case b:", "", "}", 997),
     ("[", "a", "]", 332),
     ("new ", "a", "", 996),
     ("`${", "a", "}`", 332),
@@ -378,7 +393,7 @@ fn access_head(out: &mut String, tree: &Tree) -> Result<(), AllocError> {
         }
         Node::New(_, None) => write!(out, "new"),
         Node::New(_, Some(_)) => write!(out, "new()"),
-        _ => write!(out, "other"),
+        _ => function_head(out, tree),
     }
 }
 
@@ -429,7 +444,7 @@ fn head(out: &mut String, tree: &Tree) -> Result<(), AllocError> {
             let step = if step.is_some() { "3" } else { "" };
             write!(out, "for{first}{test}{step}")
         }
-        _ => expression_head(out, tree),
+        _ => item_head(out, tree),
     }
 }
 
@@ -443,7 +458,7 @@ fn most_parts(tree: &Tree) -> usize {
         Node::Var(declarations) => declarations.len(),
         Node::This | Node::Name(_) | Node::Null | Node::Bool(_) | Node::Num(_) | Node::Text(_) => 0,
         Node::Empty => 0,
-        _ => 4,
+        _ => most_item_parts(tree),
     }
 }
 
@@ -483,7 +498,7 @@ fn before(tree: &Tree, at: usize) -> &'static str {
     match element(tree, at) {
         Some(Element::Spread(_)) => " ...",
         Some(Element::Hole) => " _",
-        _ => if part(tree, at).is_some() { " " } else { "" },
+        _ => before_item(tree, at),
     }
 }
 
@@ -502,7 +517,7 @@ fn expression_part(tree: &Tree, at: usize) -> Option<&Shared<Tree>> {
         Node::Cond(a, b, c) => if at == 2 { Some(c) } else { pick(at, a, b) },
         Node::Call(_, of, _) if at == 0 => Some(of),
         Node::New(of, _) if at == 0 => Some(of),
-        _ => element_tree(element(tree, at)?),
+        _ => function_part(tree, at),
     }
 }
 
@@ -521,7 +536,7 @@ fn part(tree: &Tree, at: usize) -> Option<&Shared<Tree>> {
             _ => None,
         },
         Node::Var(declarations) => declarations.get(at)?.value.as_ref(),
-        _ => expression_part(tree, at),
+        _ => item_part(tree, at),
     }
 }
 

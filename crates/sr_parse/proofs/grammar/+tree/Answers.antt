@@ -1,6 +1,6 @@
 use Rattle.std.proofs.Common.{◌≡◌, ap, arith}
 use Rattle.sr_syntax.specs.Grammar.{tree}
-use Rattle.sr_parse.proofs.Turns.{deeper}
+use Rattle.sr_syntax.proofs.Turns.{deeper}
 use Rattle.sr_parse.proofs.grammar.+tree.Goals as goal
 
 pub returns-then-depth-eq0 : goal.returns-then-depth-eq0

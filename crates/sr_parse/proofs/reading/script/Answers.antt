@@ -1,7 +1,7 @@
 use Rattle.std.proofs.Common.{rules, arith}
 use Rattle.std.proofs.lemmas.Grind.{common_steps}
 use Rattle.sr_syntax.specs.Grammar.{script_from}
-use Rattle.sr_parse.proofs.Turns.{one_more}
+use Rattle.sr_syntax.proofs.Turns.{one_more}
 use Rattle.sr_parse.proofs.reading.script.Goals as goal
 
 pub loop-turn-preserved : goal.loop-turn-preserved

@@ -1,6 +1,0 @@
-use Rattle.std.proofs.Common.{◌≡◌, ◌-◌}
-use Rattle.sr_syntax.specs.Grammar.{tree, arguments, arguments_from}
-use Rattle.sr_parse.proofs.grammar.Grammar.arguments.Given as goal
-
-abbrev pub invariant-loop-turn : goal.invariant-loop-turn
-invariant-loop-turn g l = arguments (tree l.self.depth) l.fn.tokens ≡ arguments_from (tree l.self.depth) (l._turn-end - l._turn) l.found l.tokens

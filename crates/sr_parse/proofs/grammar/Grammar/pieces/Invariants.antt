@@ -1,6 +1,0 @@
-use Rattle.std.proofs.Common.{◌≡◌, ◌-◌}
-use Rattle.sr_syntax.specs.Grammar.{tree, pieces, pieces_from}
-use Rattle.sr_parse.proofs.grammar.Grammar.pieces.Given as goal
-
-abbrev pub invariant-loop-turn : goal.invariant-loop-turn
-invariant-loop-turn g l = pieces (tree l.self.depth) l.fn.first l.fn.tokens ≡ pieces_from (tree l.self.depth) (l._turn-end - l._turn) l.all l.tokens

@@ -1,0 +1,24 @@
+use Rattle.std.proofs.Common.{rules, arith}
+use Rattle.std.proofs.lemmas.Grind.{common_steps}
+use Rattle.sr_syntax.specs.Objects.{properties_from}
+use Rattle.sr_syntax.specs.Grammar.{tree}
+use Rattle.sr_syntax.proofs.Turns.{one_more}
+use Rattle.sr_parse_expr.proofs.grammar.Grammar.properties.Goals as goal
+
+pub loop-turn-preserved : goal.loop-turn-preserved
+unfolding properties_from
+loop-turn-preserved g c =
+    let e = one_more (λ n. properties_from (tree c.args.self.now.depth) n c.loop-turn.found c.loop-turn.tokens) _ c.loop-turn._turn c.loop-turn-test.true c.loop-turn.invariant in
+    first_of (search rules, grind (arith, common_steps))
+
+pub returns-then-eat : goal.returns-then-eat
+unfolding properties_from
+returns-then-eat g c =
+    let e = one_more (λ n. properties_from (tree c.args.self.now.depth) n c.loop-turn.found c.loop-turn.tokens) _ c.loop-turn._turn c.loop-turn-test.true c.loop-turn.invariant in
+    first_of (search rules, grind (arith, common_steps))
+
+pub returns-in_err-expect : goal.returns-in_err-expect
+unfolding properties_from
+returns-in_err-expect g c =
+    let e = one_more (λ n. properties_from (tree c.args.self.now.depth) n c.loop-turn.found c.loop-turn.tokens) _ c.loop-turn._turn c.loop-turn-test.true c.loop-turn.invariant in
+    first_of (search rules, grind (arith, common_steps))

@@ -1,0 +1,7 @@
+use Rattle.std.proofs.Common.{◌≡◌, ◌-◌}
+use Rattle.sr_syntax.specs.Objects.{properties, properties_from}
+use Rattle.sr_syntax.specs.Grammar.{tree}
+use Rattle.sr_parse_expr.proofs.grammar.Grammar.properties.Given as goal
+
+abbrev pub invariant-loop-turn : goal.invariant-loop-turn
+invariant-loop-turn g l = properties (tree l.self.depth) l.fn.tokens ≡ properties_from (tree l.self.depth) (l._turn-end - l._turn) l.found l.tokens
