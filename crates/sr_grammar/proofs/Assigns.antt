@@ -1,39 +1,33 @@
--- What the rules of conditions and assignments read, and where they fail; and so every rule.
-use Rattle.std.proofs.Common.{◌≡◌, ℕ, zero, suc, ◌+◌, ◌≤◌, max, Bool, true, false, List, [], ◌∷◌, ◌++◌, Option, None, Some, refl, sym, ap, ◌∙◌, subst, append_assoc, append-nil, arith, if◌then◌else◌}
+-- What the rules of conditions and assignments read, and where they fail.
+use Rattle.std.proofs.Common.{◌≡◌, ℕ, suc, ◌+◌, ◌<◌, max, length, Bool, true, false, List, [], ◌∷◌, ◌++◌, Option, None, Some, refl, sym, ap, ◌∙◌, subst, append_assoc, append-nil, arith, if◌then◌else◌}
 use Rattle.sr_ast.specs.declared.operators.AssignOp.{AssignOp}
 use Rattle.sr_ast.specs.declared.tree.Node.TheVariants as node
 use Rattle.sr_syntax.specs.declared.sorts.Sort.TheVariants as k
 use Rattle.sr_syntax.specs.declared.sorts.Lexeme.{Lexeme}
 use Rattle.sr_syntax.specs.declared.grown.Grown.{Grown}
-use Rattle.sr_syntax.specs.declared.grown.Goal.{Goal}
-use Rattle.sr_syntax.specs.declared.grown.Goal.TheVariants as goal
-use Rattle.sr_syntax.specs.declared.refusal.Refusal.TheVariants.{Memory, Syntax, TooDeep}
-use Rattle.sr_syntax.specs.Sorts.{same_sort}
-use Rattle.sr_syntax.specs.Input.{Input, Outcome, sort, sort_at, place, place_at}
-use Rattle.sr_syntax.specs.Grammar.{assign_goal, assignment, is_target, gives_name, from_of, tallest, assigns, assign_by, assign, cond_, chosen, otherwise, goal_by, tree}
-use Rattle.sr_grammar.specs.Derivations.{Symbol, Derives, Cond, Short, Assign, Power, Unary, New, end_after, start_of, whole}
+use Rattle.sr_syntax.specs.Input.{Input, sort, sort_at, place, place_at}
+use Rattle.sr_syntax.specs.Operators.{assignment, is_target, gives_name, from_of, tallest, assigns}
+use Rattle.sr_syntax.specs.Expressions.{assign_by, assign_or_cond, assign, cond_, chosen, otherwise}
+use Rattle.sr_syntax.specs.Bodies.{begins_arrow}
+use Rattle.sr_syntax.specs.Grammar.{tree}
+use Rattle.sr_grammar.specs.Names.{is_arrow}
+use Rattle.sr_grammar.specs.Derivations.{Symbol, Derives, Cond, Short, Assign, start_of, whole}
 use Rattle.sr_grammar.specs.Derivations as g
 use Rattle.sr_grammar.specs.Faults.{Begins}
-use Rattle.sr_grammar.proofs.Steps.{inp, Fact, Fault, Any, Parses, Both, both, Either, first, second, Never, Pure, nothing, Looked, looked, Taken, taken, Eaten, ate, absent, Expected, expected, Here, here, Chosen, yes, no, ChosenFault, yes_fault, no_fault, map, given, then_any, bind, look, take, Shallow, Some_left, place_shallow, eaten, expecting, purely, choose_any, not_both, done, ending, end_append, sort_alike, refusal, refusal_is, deep_memory, fault_at}
+use Rattle.sr_grammar.proofs.Steps.{inp, Fact, Fault, Any, Parses, Both, both, Either, first, second, Never, Pure, nothing, Looked, looked, Taken, taken, Eaten, ate, absent, Expected, expected, Here, here, Chosen, yes, no, ChosenFault, yes_fault, no_fault, map, map_given, given, then_any, bind, look, take, Shallow, Some_left, place_shallow, eaten, expecting, purely, choose_any, not_both, ending, end_append, sort_alike}
 use Rattle.sr_grammar.proofs.Depths.{lift}
 use Rattle.sr_grammar.proofs.Facts.{Derived, derived, Opened, opened, Closed, closed, closing, bare, known_as, finished, end_behind, Start, start, Fill, begins_of_fill, begin_in, begin_as, begin_behind, filled, token}
-use Rattle.sr_grammar.proofs.Starting.{place_of}
-use Rattle.sr_grammar.proofs.Followers.{DerivedNew, derived_new, OpenedNew, opened_new}
+use Rattle.sr_grammar.proofs.Starting.{place_of, some_tokens}
+use Rattle.sr_grammar.proofs.Choices.{Decided, decided, denied, DecidedFault, decided_fault, denied_fault, deciding}
+use Rattle.sr_grammar.proofs.ArrowFacts.{arrow_test, arrows}
 use Rattle.sr_grammar.proofs.Lists.{Nested}
 use Rattle.sr_grammar.proofs.Targets.{a_name, some_assign}
-use Rattle.sr_grammar.proofs.Sides.{unit_of, unit_shallow, news}
-use Rattle.sr_grammar.proofs.Operands.{powers, unaries}
+use Rattle.sr_grammar.proofs.Sides.{unit_of, unit_shallow}
 use Rattle.sr_grammar.proofs.Rows.{shorts}
+use Rattle.sr_grammar.specs.Reading.{end_after}
+use Rattle.sr_grammar.proofs.Sorts.{end_no_colon, end_no_question}
 
 -- ---- conditions
-
-other_question : same_sort k.End k.Question ≡ false
-unfolding same_sort
-other_question = refl
-
-other_colon : same_sort k.End k.Colon ≡ false
-unfolding same_sort
-other_colon = refl
 
 abbrev ChosenOneFact : Bool → ℕ → Grown → Fact Grown
 ChosenOneFact has d x = Both (Opened (Assign true) d) (λ y. Both (Expected k.Colon) (λ u. Closed (Opened (Assign has) d) (λ z. node.Cond x.tree y.tree z.tree) (λ z. from_of x) (λ z. tallest x.height y.height z.height)))
@@ -93,8 +87,8 @@ cond_fault (second (derived h b) (second (absent e o) (no_fault f r))) = elim r 
 conds : (has : Bool) (d : ℕ) → Nested d → Parses (λ e. cond_ (tree e) has) d Any (Derived d (Cond has)) (Start (Cond has))
 unfolding cond_ chosen otherwise
 conds has d nest = map (λ l n us ts x r. cond_fact r) (λ l n us ts r. start (cond_fault r))
-    (then_any (shorts has d nest) (λ x. then_any (eaten k.Question other_question) (λ b. choose_any b
-    (then_any (nest.assign true) (λ y. then_any (expecting k.Colon other_colon) (λ u. closing (nest.assign has) (λ z. node.Cond x.tree y.tree z.tree) (λ z. from_of x) (λ z. tallest x.height y.height z.height))))
+    (then_any (shorts has d nest) (λ x. then_any (eaten k.Question end_no_question) (λ b. choose_any b
+    (then_any (nest.assign true) (λ y. then_any (expecting k.Colon end_no_colon) (λ u. closing (nest.assign has) (λ z. node.Cond x.tree y.tree z.tree) (λ z. from_of x) (λ z. tallest x.height y.height z.height))))
     (purely x))))
 
 -- ---- assignments
@@ -148,89 +142,64 @@ AssignFact has d = Both (Looked place) (λ from. Both (Derived d (Cond has)) (λ
 abbrev AssignFault : Bool → ℕ → Fault
 AssignFault has d = Either Never (Looked place) (λ from. Either (Start (Cond has)) (Derived d (Cond has)) (λ x. Either Never (Looked (look_assigns x)) (λ o. AssignByFault has o)))
 
-assign_fact : {has : Bool} {d l n : ℕ} {us ts : List Lexeme} {x : Grown} → AssignFact has d l n us ts x → Derived d (Assign has) l n us ts x
+-- what begins no arrow function
+abbrev Plain : List Lexeme → Type 0
+Plain ts = is_arrow ts ≡ false
+
+plain_in : (us r : List Lexeme) → 0 < length us → Plain (us ++ r) → Plain us
+plain_in [] r some m = absurd (omega (arith, some))
+plain_in (u ∷ us) r some m = m
+
+-- nor does its beginning
+plain_first : {d : ℕ} {s : Symbol} {us : List Lexeme} {x : Grown} (vs ts : List Lexeme) → Derives d s us x → Plain ((us ++ vs) ++ ts) → Plain us
+plain_first {us = us} vs ts h m = plain_in us (vs ++ ts) (some_tokens h) (subst Plain (append_assoc us vs ts) m)
+
+assign_fact : {has : Bool} {d l n : ℕ} {us ts : List Lexeme} {x : Grown} → Plain (us ++ ts) → AssignFact has d l n us ts x → Derived d (Assign has) l n us ts x
 unfolding place
-assign_fact (both (looked at) (both (derived h b) (both {x = None} (looked e) (nothing is)))) = bare (known_as is (derived (g.unassigned h) b))
-assign_fact {l = l} {n = n} (both {x = from} (looked at) (both {us = us} {x = x} (derived h b) (both {ts = ts} {x = Some op} (looked e) (both {vs = vs} (taken t f) (closed y (opened i p) fits is))))) =
+assign_fact {ts = ts} m (both (looked at) (both (derived h b) (both {x = None} (looked e) (nothing is)))) = bare (known_as is (derived (g.unassigned h (plain_first [] ts h m)) b))
+assign_fact {l = l} {n = n} m (both {x = from} (looked at) (both {us = us} {x = x} (derived h b) (both {ts = ts} {x = Some op} (looked e) (both {vs = vs} (taken t f) (closed y (opened i p) fits is))))) =
     let s = assigns_are x op (t ∷ (vs ++ ts)) (end_after l us) n e in
     let begun : from ≡ start_of us = at ∙ ap (λ zs. place_at n zs) (append_assoc us (t ∷ vs) ts) ∙ place_of h n (t ∷ (vs ++ ts)) in
     finished fits
     (is ∙ ap (λ a. ending (node.Assign op x.tree y.tree (gives_name a x)) (from_of x) (end_after t.to vs) (max x.height y.height)) begun
     ∙ ap (λ a. ending (node.Assign op x.tree y.tree (gives_name (start_of us) x)) (from_of x) a (max x.height y.height)) (sym (end_append l us (t ∷ vs))))
-    (end_behind l 0 us vs t) (g.assigned h s.target t s.sort i)
+    (end_behind l 0 us vs t) (g.assigned h (plain_first (t ∷ vs) ts h m) s.target t s.sort i)
 
-assign_fault : {has : Bool} {d l n : ℕ} {us ts : List Lexeme} → AssignFault has d l n us ts → Start (Assign has) l n us ts
-assign_fault (first c) = elim c [ ]
-assign_fault (second (looked at) (first (start s))) = start (begin_as (λ e vs x h. filled e vs x (g.unassigned h)) s)
-assign_fault (second (looked at) (second h (first c))) = elim c [ ]
-assign_fault (second (looked at) (second h (second {x = None} (looked e) c))) = elim c [ ]
-assign_fault (second (looked at) (second h (second {x = Some op} (looked e) (first c)))) = elim c [ ]
-assign_fault {d = d} {l = l} {n = n} (second (looked at) (second {us = us} {x = x} (derived h b) (second {ts = ts} {x = Some op} (looked e) (second {vs = vs} (taken t f) (start r))))) =
+-- An Assign from a Cond that is begun: where no token is read yet, a name is one.
+assign_of_cond : {has : Bool} (us ts : List Lexeme) → Plain (us ++ ts) → Begins (Cond has) us → Begins (Assign has) us
+assign_of_cond {has} [] ts m s = record { open_at_most = 3; more = token k.Identifier ∷ []; made = a_name; derives = some_assign has }
+assign_of_cond (u ∷ us) ts m s = record { open_at_most = s.open_at_most; more = s.more; made = s.made; derives = g.unassigned s.derives m }
+
+assign_fault : {has : Bool} {d l n : ℕ} {us ts : List Lexeme} → Plain (us ++ ts) → AssignFault has d l n us ts → Start (Assign has) l n us ts
+assign_fault m (first c) = elim c [ ]
+assign_fault {ts = ts} m (second {vs = us} (looked at) (first (start s))) = start (assign_of_cond us ts m s)
+assign_fault m (second (looked at) (second h (first c))) = elim c [ ]
+assign_fault m (second (looked at) (second h (second {x = None} (looked e) c))) = elim c [ ]
+assign_fault m (second (looked at) (second h (second {x = Some op} (looked e) (first c)))) = elim c [ ]
+assign_fault {d = d} {l = l} {n = n} m (second (looked at) (second {us = us} {x = x} (derived h b) (second {ts = ts} {x = Some op} (looked e) (second {vs = vs} (taken t f) (start r))))) =
     let s = assigns_are x op (t ∷ (vs ++ ts)) (end_after l us) n e in
-    start (begin_behind us t (λ m zs y i. filled (suc (d + m)) (us ++ t ∷ zs) _ (g.assigned (lift d (suc (d + m)) (omega arith) h) s.target t s.sort (lift m (d + m) (omega arith) i))) r)
+    let plain : Plain us = plain_first (t ∷ vs) ts h m in
+    start (begin_behind us t (λ m zs y i. filled (suc (d + m)) (us ++ t ∷ zs) _ (g.assigned (lift d (suc (d + m)) (omega arith) h) plain s.target t s.sort (lift m (d + m) (omega arith) i))) r)
 
-pub assigneds : (has : Bool) (d : ℕ) → Nested d → Parses (λ e. assign (tree e) has) d Any (Derived d (Assign has)) (Start (Assign has))
-unfolding assign
-assigneds has d nest = map (λ l n us ts x r. assign_fact r) (λ l n us ts r. assign_fault r)
+assign_or_conds : (has : Bool) (d : ℕ) → Nested d → Parses (λ e. assign_or_cond (tree e) has) d Plain (Derived d (Assign has)) (Start (Assign has))
+unfolding assign_or_cond
+assign_or_conds has d nest = map_given (λ l n us ts x m r. assign_fact m r) (λ l n us ts m r. assign_fault m r) (given (λ ts m. tt)
     (then_any (look place place_shallow) (λ from. then_any (conds has d nest)
-    (λ x. bind (λ l n us ts o m r. seen x o r) (look (look_assigns x) (assigns_shallow x)) (λ o. assign_bys has d nest from x o))))
+    (λ x. bind (λ l n us ts o m r. seen x o r) (look (look_assigns x) (assigns_shallow x)) (λ o. assign_bys has d nest from x o)))))
   where
     seen : {l n : ℕ} {us ts : List Lexeme} (x : Grown) (o : Option AssignOp) → Looked (look_assigns x) l n us ts o → Seen x o ts
     seen x None r = tt
     seen {l} {n} x (Some op) (looked {ts} e) = assigns_are x op ts l n e
 
--- ---- what is open while it is read
+either_fact : {has : Bool} {d l n : ℕ} {us ts : List Lexeme} {x : Grown} → Decided is_arrow (Derived d (Assign has)) (Derived d (Assign has)) l n us ts x → Derived d (Assign has) l n us ts x
+either_fact (decided is r) = r
+either_fact (denied is r) = r
 
-pub opened_again : (o : Goal) (d : ℕ) (i : Input) (r : Outcome Grown) → ((e : ℕ) → d ≤ e → goal_by (tree e) o i ≡ r) → (e : ℕ) → suc d ≤ e → tree e o i ≡ r
-unfolding tree
-opened_again o d i r again zero more = absurd (omega arith)
-opened_again o d i r again (suc e) more = again e (omega arith)
+either_fault : {has : Bool} {l n : ℕ} {us ts : List Lexeme} → DecidedFault is_arrow (Start (Assign has)) (Start (Assign has)) l n us ts → Start (Assign has) l n us ts
+either_fault (decided_fault is r) = r
+either_fault (denied_fault is r) = r
 
-opens : {R S : Fact Grown} {B : Fault} (o : Goal) (d : ℕ) → ((l n : ℕ) (us ts : List Lexeme) (x : Grown) → R l n us ts x → S l n us ts x)
-    → Parses (λ e. goal_by (tree e) o) d Any R B → Parses (λ e. tree e o) (suc d) Any S B
-unfolding tree
-opens o d f p = record {
-  reads = λ l n all x j q h. let r = p.reads l n all x j q h in record {
-    us = r.us;
-    ts = r.ts;
-    split = r.split;
-    left = r.left;
-    fact = f l n r.us r.ts x r.fact;
-    again = λ e rs more same. opened_again o d (inp (r.us ++ rs) l n) (done x (inp rs (end_after l r.us) n)) (λ e more. r.again e rs more same) e more;
-  };
-  fails = λ l n all place q h. let r = p.fails l n all place q h in record {
-    us = r.us;
-    ts = r.ts;
-    split = r.split;
-    at = r.at;
-    fault = r.fault;
-    again = λ e rs more same. opened_again o d (inp (r.us ++ rs) l n) (fault_at (place_at n rs)) (λ e more. r.again e rs more same) e more;
-  };
-  safe = p.safe;
-}
-
-shut : {S : Fact Grown} {B : Fault} (o : Goal) → Parses (λ e. tree e o) zero Any S B
-unfolding tree
-shut o = record { reads = λ l n all x j q h. cc; fails = λ l n all place q h. absurd (deep h); safe = λ l n all q h. deep_memory (refusal_is {A = Grown} TooDeep Memory h) }
-  where
-    deep : {place : ℕ} → refusal {A = Grown} TooDeep ≡ refusal (Syntax place) → ⊥
-    deep h = cc
-
-assigned_goals : (has : Bool) (d : ℕ) → Nested d → Parses (λ e. goal_by (tree e) (assign_goal has)) d Any (Derived d (Assign has)) (Start (Assign has))
-assigned_goals true d nest = assigneds true d nest
-assigned_goals false d nest = assigneds false d nest
-
-now_open : {s : Symbol} {d l n : ℕ} {us ts : List Lexeme} {x : Grown} → Derived d s l n us ts x → Opened s (suc d) l n us ts x
-now_open (derived h b) = opened h b
-
-now_new : {d l n : ℕ} {us ts : List Lexeme} {x : Grown} → DerivedNew d l n us ts x → OpenedNew (suc d) l n us ts x
-now_new (derived_new h b behind) = opened_new h b behind
-
-pub nests : (d : ℕ) → Nested d
-nests zero = record { assign = λ has. shut (assign_goal has); power = shut goal.Power; unary = shut goal.Unary; new = shut goal.New }
-nests (suc d) = record {
-  assign = λ has. opens (assign_goal has) d (λ l n us ts x r. now_open r) (assigned_goals has d (nests d));
-  power = opens goal.Power d (λ l n us ts x r. now_open r) (powers d (nests d));
-  unary = opens goal.Unary d (λ l n us ts x r. now_open r) (unaries d (nests d));
-  new = opens goal.New d (λ l n us ts x r. now_new r) (news d (nests d));
-}
+pub assigneds : (has : Bool) (d : ℕ) → Nested d → Parses (λ e. assign (tree e) has) d Any (Derived d (Assign has)) (Start (Assign has))
+unfolding assign
+assigneds has d nest = map (λ l n us ts x r. either_fact r) (λ l n us ts r. either_fault r)
+    (deciding begins_arrow is_arrow arrow_test (arrows has d nest) (assign_or_conds has d nest))

@@ -37,6 +37,18 @@ onward f b = carry [] f b
 pub begun_whole : {A : Type 0} {D : ℕ → List Lexeme → A → Type 0} (e : ℕ) (us : List Lexeme) (x : A) → D e us x → Begun D us
 begun_whole {A} {D} e us x h = record { depth = e; more = []; made = x; has = subst (λ zs. D e zs x) (sym (append-nil us)) h }
 
+-- with more tokens at the end
+pub begun_more : {A : Type 0} {D : ℕ → List Lexeme → A → Type 0} (e : ℕ) (us vs more : List Lexeme) (x : A) → D e (us ++ (vs ++ more)) x → Begun D (us ++ vs)
+begun_more {A} {D} e us vs more x h = record { depth = e; more = more; made = x; has = subst (λ zs. D e zs x) (sym (append_assoc us vs more)) h }
+
+-- what was read is that, whatever follows
+pub data Wholly {A : Type 0} (D : ℕ → List Lexeme → A → Type 0) (d l n : ℕ) (us ts : List Lexeme) (x : A) : Type 0 where
+  wholly : D d us x → Wholly D d l n us ts x
+
+-- and where it fails, that was begun
+pub data Partly {A : Type 0} (D : ℕ → List Lexeme → A → Type 0) (l n : ℕ) (us ts : List Lexeme) : Type 0 where
+  partly : Begun D us → Partly D l n us ts
+
 abbrev pub Of : Symbol → ℕ → List Lexeme → Grown → Type 0
 Of s e us x = Derives e s us x
 

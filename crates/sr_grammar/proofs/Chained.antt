@@ -12,8 +12,10 @@ use Rattle.sr_syntax.specs.declared.grown.Grown.{Grown}
 use Rattle.sr_syntax.specs.declared.grown.Elements.{Elements}
 use Rattle.sr_syntax.specs.Sorts.{same_sort}
 use Rattle.sr_syntax.specs.Input.{Input, Parser, ◌>>=◌, ◌>>◌, and_then, take_token, sort, left, is_word, text_of, max_depth}
-use Rattle.sr_syntax.specs.Grammar.{member, index, call, optional_by, optional, part_sort, part_by, parts_from, parts, member_part_by, member_parts_from, member_parts, tree, link_in, from_of}
-use Rattle.sr_grammar.specs.Derivations.{Symbol, Derives, Arguments, Expression, Chain, Member, Constructor, is_bracket, whole}
+use Rattle.sr_syntax.specs.Operators.{member, part_sort, link_in, from_of}
+use Rattle.sr_syntax.specs.Expressions.{index, call, optional_by, optional, part_by, parts_from, parts, member_part_by, member_parts_from, member_parts}
+use Rattle.sr_syntax.specs.Grammar.{tree}
+use Rattle.sr_grammar.specs.Derivations.{Symbol, Derives, Arguments, Expression, Chain, Member, Constructor, whole}
 use Rattle.sr_grammar.specs.Derivations as g
 use Rattle.sr_grammar.proofs.Steps.{inp, Any, Parses, Pure, nothing, map, map_given, given, purely, turns, finish, pred, not_both, done}
 use Rattle.sr_grammar.proofs.Depths.{lift}
@@ -22,7 +24,8 @@ use Rattle.sr_grammar.proofs.Followers.{Unparted, Uncalled}
 use Rattle.sr_grammar.proofs.Lists.{Nested, assoc}
 use Rattle.sr_grammar.proofs.Beginnings.{Begun, Of, onward, begun_whole, Turned, onwards, at_end, Broken, broken, turned_runs, turned_breaks, turned_grows}
 use Rattle.sr_grammar.proofs.Peeks.{Sorted, by_sort}
-use Rattle.sr_grammar.proofs.Parts.{Before, Extended, Unextended, unextended, After, behind, taken_before, Members, Indexes, Calls, Lifts, members_strictly, members, indexes, calls}
+use Rattle.sr_grammar.proofs.Parts.{Before, Extended, Unextended, unextended, After, behind, taken_before, Members, Indexes, Calls, Lifts, members, indexes, calls}
+use Rattle.sr_grammar.proofs.Sorts.{dot_self, left_bracket_self}
 
 -- ---- the parts of the grammar
 
@@ -40,10 +43,10 @@ lifts_after {s} {P} {of} l = record { lifts = λ d m far h. go d m far h }
     go : {us : List Lexeme} (d m : ℕ) → d ≤ m → After s P d us of → After s P m us of
     go d m far (behind h t c) = behind (l.lifts d m far h) t c
 
-named : {c : Bool} {of : Grown} → Members false (After k.Dot (Of (Chain c))) (Chain c) (link_in c) of
-named {c} {of} = record { makes = λ h u w f. go h u w }
+named : {c : Bool} {of : Grown} → Members (After k.Dot (Of (Chain c))) (Chain c) (link_in c) of
+named {c} {of} = record { makes = λ h u w. go h u w }
   where
-    go : {e : ℕ} {us : List Lexeme} → (After k.Dot (Of (Chain c))) e us of → (u : Lexeme) → is_word u.content ≡ true
+    go : {e : ℕ} {us : List Lexeme} → (After k.Dot (Of (Chain c))) e us of → (u : Lexeme) → is_word u.sort ≡ true
         → Derives e (Chain c) (us ++ u ∷ []) (whole (node.Member (link_in c) of.tree (text_of u.content)) (from_of of) (us ++ u ∷ []) of.height)
     go (behind {us} h t e) u w = moved us (t ∷ []) (u ∷ []) _ (g.named h t e u w)
 
@@ -65,12 +68,12 @@ called {c} {of} = record { makes = λ h a. go h a }
 abbrev Asked : Bool → Before
 Asked c = After k.QuestionDot (Of (Chain c))
 
-optional_named : {c : Bool} {of : Grown} → Members true (Asked c) (Chain true) link.Optional of
-optional_named {c} {of} = record { makes = λ h u w f. go h u w f }
+optional_named : {c : Bool} {of : Grown} → Members (Asked c) (Chain true) link.Optional of
+optional_named {c} {of} = record { makes = λ h u w. go h u w }
   where
-    go : {e : ℕ} {us : List Lexeme} → (Asked c) e us of → (u : Lexeme) → is_word u.content ≡ true → (true ≡ true → is_bracket u.sort ≡ false)
+    go : {e : ℕ} {us : List Lexeme} → (Asked c) e us of → (u : Lexeme) → is_word u.sort ≡ true
         → Derives e (Chain true) (us ++ u ∷ []) (whole (node.Member link.Optional of.tree (text_of u.content)) (from_of of) (us ++ u ∷ []) of.height)
-    go (behind {us} h t e) u w f = moved us (t ∷ []) (u ∷ []) _ (g.optional_named h t e u w (f refl))
+    go (behind {us} h t e) u w = moved us (t ∷ []) (u ∷ []) _ (g.optional_named h t e u w)
 
 optional_indexed : {c : Bool} {of : Grown} → Indexes (After k.LeftBracket (Asked c)) (Chain true) link.Optional of
 optional_indexed {c} {of} = record { makes = λ h i u w. go h i u w }
@@ -87,10 +90,10 @@ optional_called {c} {of} = record { makes = λ h a. go h a }
     go {vs = vs} (behind (behind {us} h t e) v f) a = moved (us ++ t ∷ []) (v ∷ []) vs _ (moved us (t ∷ []) (v ∷ vs) _ (g.optional_called h t e v f a))
 
 -- of a Member
-member_named : {of : Grown} → Members false (After k.Dot (Of Member)) Member link.Plain of
-member_named {of} = record { makes = λ h u w f. go h u w }
+member_named : {of : Grown} → Members (After k.Dot (Of Member)) Member link.Plain of
+member_named {of} = record { makes = λ h u w. go h u w }
   where
-    go : {e : ℕ} {us : List Lexeme} → (After k.Dot (Of Member)) e us of → (u : Lexeme) → is_word u.content ≡ true
+    go : {e : ℕ} {us : List Lexeme} → (After k.Dot (Of Member)) e us of → (u : Lexeme) → is_word u.sort ≡ true
         → Derives e Member (us ++ u ∷ []) (whole (node.Member link.Plain of.tree (text_of u.content)) (from_of of) (us ++ u ∷ []) of.height)
     go (behind {us} h t e) u w = moved us (t ∷ []) (u ∷ []) _ (g.member_named h t e u w)
 
@@ -140,7 +143,7 @@ module _ (d : ℕ) (nest : Nested d) where
   optionals_by : (c : Bool) (of : Grown) (s : Sort) → Parses (λ e. optional_by (tree e) of s) d (Sorted s) (Extended (Asked c) (Chain true) of d) (Unextended (Asked c) (Chain true) of d)
   optionals_by c of k.LeftBracket = taken_before k.LeftBracket (λ e. cc) (indexes d nest link.Optional of (lifts_after (lifts_after lifts_of)) (optional_indexed {c = c}))
   optionals_by c of k.LeftParenthesis = taken_before k.LeftParenthesis (λ e. cc) (calls d nest link.Optional of (lifts_after (lifts_after lifts_of)) (optional_called {c = c}))
-  optionals_by c of s = given (λ ts m e. ap is_bracket m ∙ refl) (members_strictly true link.Optional of (optional_named {c = c}))
+  optionals_by c of s = given (λ ts m. tt) (members link.Optional of (optional_named {c = c}))
 
   optionals : (c : Bool) (of : Grown) → Parses (λ e. optional (tree e) of) d Any (Extended (Asked c) (Chain true) of d) (Unextended (Asked c) (Chain true) of d)
   unfolding optional
@@ -213,19 +216,11 @@ member_by e of _ = λ i. Ok (inr of, i)
 abbrev member_step : ℕ → Grown → Parser (Grown ⊎ Grown)
 member_step e of = (λ i. done (sort i) i) >>= (λ s. member_by e of s)
 
-dot_is : same_sort k.Dot k.Dot ≡ true
-unfolding same_sort
-dot_is = refl
-
-bracket_is : same_sort k.LeftBracket k.LeftBracket ≡ true
-unfolding same_sort
-bracket_is = refl
-
 no_dot_next : {ts : List Lexeme} → Sorted k.Dot ts → Uncalled ts → ⊥
-no_dot_next m u = not_both (ap (λ s. same_sort s k.Dot) m ∙ dot_is) u.unparted.no_dot
+no_dot_next m u = not_both (ap (λ s. same_sort s k.Dot) m ∙ dot_self) u.unparted.no_dot
 
 no_bracket_next : {ts : List Lexeme} → Sorted k.LeftBracket ts → Uncalled ts → ⊥
-no_bracket_next m u = not_both (ap (λ s. same_sort s k.LeftBracket) m ∙ bracket_is) u.unparted.no_bracket
+no_bracket_next m u = not_both (ap (λ s. same_sort s k.LeftBracket) m ∙ left_bracket_self) u.unparted.no_bracket
 
 built_fact : {d l n : ℕ} {us ts : List Lexeme} {of : Grown} {o : Grown ⊎ Grown} → (Uncalled (us ++ ts) → ⊥)
     → Mapped (Extended (Of Member) Member of d) (λ x. inl x) l n us ts o → Turned InMember Built d of l n us ts o

@@ -14,8 +14,10 @@ use Rattle.sr_syntax.specs.declared.grown.Goal.TheVariants as goal
 use Rattle.sr_syntax.specs.declared.operators.PartSort.TheVariants as part
 use Rattle.sr_syntax.specs.Sorts.{same_sort}
 use Rattle.sr_syntax.specs.Input.{Parser, ◌>>=◌, and_then, pure, sort, sort_at, place, left, next, complete, text_of, is_word}
-use Rattle.sr_syntax.specs.Grammar.{from_of, is_target, is_bare_new, link_in, part_sort, member, index, call, arguments, optional, primary, parts_from, parts, left_side, member_parts_from, member_parts, constructor, constructed, new_, tree}
-use Rattle.sr_grammar.specs.Derivations.{Derives, Expression, Left, Chain, New, Constructor, Member, Primary, is_bracket, end_after, whole}
+use Rattle.sr_syntax.specs.Operators.{from_of, is_target, is_bare_new, link_in, part_sort, member}
+use Rattle.sr_syntax.specs.Expressions.{index, call, arguments, optional, primary, parts_from, parts, left_side, member_parts_from, member_parts, constructor, constructed, new_}
+use Rattle.sr_syntax.specs.Grammar.{tree}
+use Rattle.sr_grammar.specs.Derivations.{Derives, Expression, Left, Chain, New, Constructor, Member, Primary, whole}
 use Rattle.sr_grammar.specs.Derivations as g
 use Rattle.sr_grammar.specs.Continuing.{Ends}
 use Rattle.sr_grammar.proofs.Steps.{inp, done, ending}
@@ -24,6 +26,8 @@ use Rattle.sr_grammar.proofs.Heads.{primary_head, new_first}
 use Rattle.sr_grammar.proofs.Completing.{Stands, stands_then, tail_fits, is_sort, loose_sort, expect_goes, eat_yes, eat_no}
 use Rattle.sr_grammar.proofs.Parting.{member_gets, index_gets, call_gets, optional_name, optional_is, parts_end, part_step, part_goes, member_parts_end, member_step, member_goes}
 use Rattle.sr_grammar.proofs.Claims.{Claim, stands_move, gets_move, end_at}
+use Rattle.sr_grammar.specs.Reading.{end_after}
+use Rattle.sr_grammar.proofs.Sorts.{end_no_dot, end_no_left_bracket, end_no_left_parenthesis, left_parenthesis_no_dot, left_parenthesis_no_left_bracket, left_parenthesis_self, new_self}
 
 -- ---- which trees are targets, and a New without Arguments
 
@@ -45,7 +49,7 @@ chain_target (g.one_new h is) e = cc
 chain_target (g.named {c} {us} {x} h t p u w) e = member_target c x (text_of u.content) (from_of x) x.height (us ++ t ∷ u ∷ []) e
 chain_target (g.indexed {c} {us} {vs} {x} {y} h t p i u q) e = index_target c x y (from_of x) (max x.height y.height) (us ++ t ∷ (vs ++ u ∷ [])) e
 chain_target (g.called h t p a) e = refl
-chain_target (g.optional_named h t p u w o) e = refl
+chain_target (g.optional_named h t p u w) e = refl
 chain_target (g.optional_indexed h t p w q i u c) e = refl
 chain_target (g.optional_called h t p w q a) e = refl
 
@@ -54,10 +58,6 @@ unfolding is_bare_new tree_of.out-Node hole.out
 bare_new x from tall us = refl
 
 -- ---- how a Left begins
-
-new_self : same_sort k.New k.New ≡ true
-unfolding same_sort
-new_self = refl
 
 left_new : (d : ℕ) (o : Bool) (ts : List Lexeme) (l n : ℕ) → sort_at ts ≡ k.New
     → left_side (tree d) o (inp ts l n) ≡ and_then (tree d goal.New (inp ts l n)) (λ x. if is_bare_new x then pure x else parts (tree d) o x)
@@ -146,7 +146,7 @@ optional_part : (o : Bool) → o ≡ true → part_sort o k.QuestionDot ≡ part
 optional_part true e = refl
 optional_part false e = cc
 
-pub named_reads : (d : ℕ) (c : Bool) (us : List Lexeme) (t u : Lexeme) (x : Grown) → Claim d (Chain c) us x → t.sort ≡ k.Dot → is_word u.content ≡ true
+pub named_reads : (d : ℕ) (c : Bool) (us : List Lexeme) (t u : Lexeme) (x : Grown) → Claim d (Chain c) us x → t.sort ≡ k.Dot → is_word u.sort ≡ true
     → Claim d (Chain c) (us ++ t ∷ u ∷ []) (whole (node.Member (link_in c) x.tree (text_of u.content)) (from_of x) (us ++ t ∷ u ∷ []) x.height)
 unfolding next
 named_reads d c us t u x h q w =
@@ -176,11 +176,11 @@ optional_reads d c us vs t x nd tall less h q given =
     part_reads d c true us vs t x nd tall (optional (tree d) x) less h (λ o any is. any refl)
     (λ o any m ts l n. part_step d o c m x t ts l n part.Optional (ap (part_sort o) q ∙ optional_part o (any refl))) given
 
-pub optional_named_reads : (d : ℕ) (c : Bool) (us : List Lexeme) (t u : Lexeme) (x : Grown) → Claim d (Chain c) us x → t.sort ≡ k.QuestionDot → is_word u.content ≡ true → is_bracket u.sort ≡ false
+pub optional_named_reads : (d : ℕ) (c : Bool) (us : List Lexeme) (t u : Lexeme) (x : Grown) → Claim d (Chain c) us x → t.sort ≡ k.QuestionDot → is_word u.sort ≡ true
     → Claim d (Chain true) (us ++ t ∷ u ∷ []) (whole (node.Member link.Optional x.tree (text_of u.content)) (from_of x) (us ++ t ∷ u ∷ []) x.height)
-optional_named_reads d c us t u x h q w e =
+optional_named_reads d c us t u x h q w =
     optional_reads d c us (u ∷ []) t x (node.Member link.Optional x.tree (text_of u.content)) x.height (omega arith) h q
-    (λ r l n. gets_is (member link.Optional x (inp (u ∷ r) l n)) (optional_name d x u r l n e) (member_gets link.Optional x u r l n w))
+    (λ r l n. gets_is (member link.Optional x (inp (u ∷ r) l n)) (optional_name d x u r l n w) (member_gets link.Optional x u r l n w))
 
 pub optional_indexed_reads : (d : ℕ) (c : Bool) (us vs : List Lexeme) (t w u : Lexeme) (x y : Grown) → Claim d (Chain c) us x → t.sort ≡ k.QuestionDot → w.sort ≡ k.LeftBracket → Claim d (Expression true) vs y → u.sort ≡ k.RightBracket
     → Claim d (Chain true) (us ++ t ∷ w ∷ (vs ++ u ∷ [])) (whole (node.Index link.Optional x.tree y.tree) (from_of x) (us ++ t ∷ w ∷ (vs ++ u ∷ [])) (max x.height y.height))
@@ -233,7 +233,7 @@ member_reads d us vs t x nd tall p less h step given r l n =
     (λ m far. member_goes d m x (ending nd (from_of x) (end_after t.to vs) tall) t (vs ++ r) r (end_after l us) n (end_after t.to vs) p far (tail_fits vs r)
     (λ m. step m (vs ++ r) (end_after l us) n) (given r t.to n))))
 
-pub member_named_reads : (d : ℕ) (us : List Lexeme) (t u : Lexeme) (x : Grown) → Claim d Member us x → t.sort ≡ k.Dot → is_word u.content ≡ true
+pub member_named_reads : (d : ℕ) (us : List Lexeme) (t u : Lexeme) (x : Grown) → Claim d Member us x → t.sort ≡ k.Dot → is_word u.sort ≡ true
     → Claim d Member (us ++ t ∷ u ∷ []) (whole (node.Member (link_in false) x.tree (text_of u.content)) (from_of x) (us ++ t ∷ u ∷ []) x.height)
 unfolding next
 member_named_reads d us t u x h q w =
@@ -247,25 +247,9 @@ member_indexed_reads d us vs t u x y h q i w =
     member_reads d us (vs ++ u ∷ []) t x (node.Index (link_in false) x.tree y.tree) (max x.height y.height) (index (tree d) link.Plain x) (omega arith) h
     (λ m ts l n. member_step d m x t ts l n k.LeftBracket q) (index_reads d link.Plain x y vs u i w)
 
-dot_other : same_sort k.End k.Dot ≡ false
-unfolding same_sort
-dot_other = refl
-
-bracket_other : same_sort k.End k.LeftBracket ≡ false
-unfolding same_sort
-bracket_other = refl
-
-parenthesis_other : same_sort k.End k.LeftParenthesis ≡ false
-unfolding same_sort
-parenthesis_other = refl
-
-parenthesis_self : same_sort k.LeftParenthesis k.LeftParenthesis ≡ true
-unfolding same_sort
-parenthesis_self = refl
-
 -- where no part of a Member begins
 no_member_part : (r : List Lexeme) → Ends false 0 r → (same_sort (sort_at r) k.Dot ≡ false) × (same_sort (sort_at r) k.LeftBracket ≡ false)
-no_member_part r e = (not_sort false k.Dot 0 dot_other (λ line. omega arith) r e, not_sort false k.LeftBracket 0 bracket_other (λ line. omega arith) r e)
+no_member_part r e = (not_sort false k.Dot 0 end_no_dot (λ line. omega arith) r e, not_sort false k.LeftBracket 0 end_no_left_bracket (λ line. omega arith) r e)
 
 pub of_member_reads : (d : ℕ) (us : List Lexeme) (x : Grown) → Claim d Member us x → Claim d Constructor us x
 of_member_reads d us x h r l n e =
@@ -291,17 +275,9 @@ new_bare_reads d us t x c h r l n any =
     gets_is (and_then (constructor (tree d) (inp (us ++ r) t.to n)) (constructed (tree d) t.from)) (new_is d t (us ++ r) l n c)
     (gets_trans x.height (x.height + 1) (omega arith) (gets_then (h r t.to n e) (constructed (tree d) t.from))
     (gets_is (complete (node.New x.tree None) t.from x.height (inp r (end_after t.to us) n))
-    (eat_no k.LeftParenthesis r (end_after t.to us) n (not_sort false k.LeftParenthesis 0 parenthesis_other (λ line. omega arith) r e)
+    (eat_no k.LeftParenthesis r (end_after t.to us) n (not_sort false k.LeftParenthesis 0 end_no_left_parenthesis (λ line. omega arith) r e)
     (λ b. if b then (arguments (tree d) >>= (λ all. complete (node.New x.tree (Some all.items)) t.from (max x.height all.tall))) else complete (node.New x.tree None) t.from x.height))
     (gets_whole (node.New x.tree None) t.from x.height r (end_after t.to us) n)))
-
-no_dot : same_sort k.LeftParenthesis k.Dot ≡ false
-unfolding same_sort
-no_dot = refl
-
-no_bracket : same_sort k.LeftParenthesis k.LeftBracket ≡ false
-unfolding same_sort
-no_bracket = refl
 
 pub new_called_reads : (d : ℕ) (us vs : List Lexeme) (t u : Lexeme) (x : Grown) (xs : Elements) → t.sort ≡ k.New → Claim d Member us x → u.sort ≡ k.LeftParenthesis → ArgumentsClaim d vs xs
     → Claim d New (t ∷ (us ++ u ∷ vs)) (whole (node.New x.tree (Some xs.items)) t.from (t ∷ (us ++ u ∷ vs)) (max x.height xs.tall))
@@ -311,10 +287,10 @@ new_called_reads d us vs t u x xs c h q a r l n any =
     let ts = u ∷ (vs ++ r) in
     let nd = node.New x.tree (Some xs.items) in
     let s = h ts t.to n in
-    let member_ = gets_to s.gets (member_parts_end d s.turns x ts (end_after t.to us) n (ap (λ a. same_sort a k.Dot) q ∙ no_dot) (ap (λ a. same_sort a k.LeftBracket) q ∙ no_bracket)) in
+    let member_ = gets_to s.gets (member_parts_end d s.turns x ts (end_after t.to us) n (ap (λ a. same_sort a k.Dot) q ∙ left_parenthesis_no_dot) (ap (λ a. same_sort a k.LeftBracket) q ∙ left_parenthesis_no_left_bracket)) in
     let close : Elements → Parser Grown = λ all. complete (node.New x.tree (Some all.items)) t.from (max x.height all.tall) in
     let given = gets_trans xs.tall (tall + 1) (omega arith) (gets_then (a r u.to n) close) (gets_whole nd t.from tall r (end_after u.to vs) n) in
-    let goes = eat_yes k.LeftParenthesis u (vs ++ r) (end_after t.to us) n q parenthesis_self
+    let goes = eat_yes k.LeftParenthesis u (vs ++ r) (end_after t.to us) n q left_parenthesis_self
     (λ b. if b then (arguments (tree d) >>= (λ all. complete (node.New x.tree (Some all.items)) t.from (max x.height all.tall))) else complete (node.New x.tree None) t.from x.height) in
     gets_is (and_then (constructor (tree d) (inp ((us ++ u ∷ vs) ++ r) t.to n)) (constructed (tree d) t.from)) (new_is d t ((us ++ u ∷ vs) ++ r) l n c)
     (subst (λ zs. Gets (and_then (constructor (tree d) (inp zs t.to n)) (constructed (tree d) t.from)) (tall + 1) (done (whole nd t.from (t ∷ (us ++ u ∷ vs)) tall) (inp r (end_after t.to (us ++ u ∷ vs)) n))) (sym (append_assoc us (u ∷ vs) r))

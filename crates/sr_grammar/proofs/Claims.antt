@@ -9,15 +9,18 @@ use Rattle.sr_syntax.specs.declared.sorts.Sort.{Sort}
 use Rattle.sr_syntax.specs.declared.sorts.Lexeme.{Lexeme}
 use Rattle.sr_syntax.specs.declared.grown.Grown.{Grown}
 use Rattle.sr_syntax.specs.declared.grown.Goal.TheVariants as goal
-use Rattle.sr_syntax.specs.Sorts.{same_sort}
 use Rattle.sr_syntax.specs.Input.{Outcome, Parser, ◌>>=◌, and_then, pure, expect, sort, sort_at, line_at, line_before, place, next, complete, refuse, text, number, text_of, number_of}
-use Rattle.sr_syntax.specs.Grammar.{prefix, is_prefix, is_prefix_of, update_before, update_after, bit_or_row, coalesce_row, joined_node, from_of, is_target, is_bare_new, steps, joined, row_from, expression, parenthesized, primary_by, primary, parts_from, left_side, member_parts_from, constructor, new_, stepped, step_by, step_after, update_by, update, unary_by, unary_, raised, power, binary_, short_circuit, cond_, assign, tree}
-use Rattle.sr_grammar.specs.Derivations.{Symbol, Derives, Expression, Assign, Cond, Short, Coalesce, CoalesceHead, Row, Power, Unary, Update, Left, Chain, New, Constructor, Member, Primary, end_after, whole, joining}
+use Rattle.sr_syntax.specs.Operators.{prefix, is_prefix, is_prefix_of, update_before, update_after, bit_or_row, coalesce_row, joined_node, from_of, is_target, is_bare_new, steps, joined, row_from}
+use Rattle.sr_syntax.specs.Expressions.{expression, parenthesized, primary_by, primary, parts_from, left_side, member_parts_from, constructor, new_, stepped, step_by, step_after, update_by, update, unary_by, unary_, raised, power, binary_, short_circuit, cond_, assign}
+use Rattle.sr_syntax.specs.Grammar.{tree}
+use Rattle.sr_grammar.specs.Derivations.{Symbol, Derives, Expression, Assign, Cond, Short, Coalesce, CoalesceHead, Row, Power, Unary, Update, Left, Chain, New, Constructor, Member, Primary, whole, joining}
 use Rattle.sr_grammar.specs.Continuing.{looseness, Ends}
 use Rattle.sr_grammar.proofs.Steps.{inp, done, ending, eat_is, expect_is, end_append, not_both}
 use Rattle.sr_grammar.proofs.Gets.{Gets, gets_is, gets_to, gets_then, gets_trans, gets_whole, not_sort, no_update}
 use Rattle.sr_grammar.proofs.Heads.{left_head, update_head}
 use Rattle.sr_grammar.proofs.Completing.{Reads, Stands, is_sort, looser, loose_sort}
+use Rattle.sr_grammar.specs.Reading.{end_after}
+use Rattle.sr_grammar.proofs.Sorts.{end_no_power, power_self, right_parenthesis_self}
 
 -- before what a condition does not continue, a target before an operator of an assignment too
 abbrev pub EndsCond : Bool → Grown → List Lexeme → Type 0
@@ -97,17 +100,13 @@ module _ (d : ℕ) (t : Lexeme) (r : List Lexeme) (l n : ℕ) where
   unfolding text next
   text_reads c = leaf_reads (node.Text (text_of t.content)) (primary_is d t r l n k.Text c)
 
-pub right_self : same_sort k.RightParenthesis k.RightParenthesis ≡ true
-unfolding same_sort
-right_self = refl
-
 pub parenthesized_reads : (d : ℕ) (t u : Lexeme) (us : List Lexeme) (x : Grown) → t.sort ≡ k.LeftParenthesis → Claim d (Expression true) us x → u.sort ≡ k.RightParenthesis → Claim d Primary (t ∷ (us ++ u ∷ [])) x
 unfolding parenthesized next
 parenthesized_reads d t u us x c h e r l n =
     let inner = h (u ∷ r) t.to n (loose_sort true u k.RightParenthesis 16 e (λ line. omega arith) r) in
     let f : Grown → Parser Grown = λ x. expect k.RightParenthesis >>= (λ v. pure x) in
     let after_ : f x (inp (u ∷ r) (end_after t.to us) n) ≡ done x (inp r u.to n) =
-    ap (λ o. and_then o (λ v. pure x)) (expect_is k.RightParenthesis (u ∷ r) (end_after t.to us) n true (is_sort k.RightParenthesis u.sort e right_self)) in
+    ap (λ o. and_then o (λ v. pure x)) (expect_is k.RightParenthesis (u ∷ r) (end_after t.to us) n true (is_sort k.RightParenthesis u.sort e right_parenthesis_self)) in
     gets_is (primary_by (tree d) t.from k.LeftParenthesis (inp (t ∷ ((us ++ u ∷ []) ++ r)) l n)) (primary_is d t ((us ++ u ∷ []) ++ r) l n k.LeftParenthesis c)
     (subst (λ zs. Gets (and_then (expression (tree d) true (inp zs t.to n)) f) x.height (done x (inp r (end_after t.to (us ++ u ∷ [])) n))) (sym (append_assoc us (u ∷ []) r))
     (gets_to (gets_then inner f) (after_ ∙ ap (λ m. done x (inp r m n)) (end_at t.to us [] u))))
@@ -193,19 +192,11 @@ no_operator_reads d us x derives h r l n e = gets_is (update (tree d) (inp (us +
 
 -- ---- powers
 
-power_other : same_sort k.End k.Power ≡ false
-unfolding same_sort
-power_other = refl
-
-power_self : same_sort k.Power k.Power ≡ true
-unfolding same_sort
-power_self = refl
-
 raised_ends : (d : ℕ) (x : Grown) (b : Bool) (r : List Lexeme) (l n : ℕ) → Ends false 2 r → (if b then pure x else raised (tree d) x) (inp r l n) ≡ done x (inp r l n)
 unfolding raised
 raised_ends d x true r l n e = refl
 raised_ends d x false r l n e =
-    ap (λ o. and_then o (λ is_raised. if is_raised then (tree d goal.Power >>= (λ y. joined k.Power x y)) else pure x)) (eat_is k.Power r l n false (not_sort false k.Power 2 power_other (λ line. omega arith) r e))
+    ap (λ o. and_then o (λ is_raised. if is_raised then (tree d goal.Power >>= (λ y. joined k.Power x y)) else pure x)) (eat_is k.Power r l n false (not_sort false k.Power 2 end_no_power (λ line. omega arith) r e))
 
 pub unraised_reads : (d : ℕ) (us : List Lexeme) (x : Grown) → Claim d Unary us x → Claim (suc d) Power us x
 unfolding power tree sort

@@ -7,11 +7,14 @@ use Rattle.sr_syntax.specs.declared.grown.Grown.{Grown}
 use Rattle.sr_syntax.specs.declared.grown.Grove.{Grove}
 use Rattle.sr_syntax.specs.Sorts.{same_sort}
 use Rattle.sr_syntax.specs.Input.{Input, Outcome, Parser, ◌>>=◌, and_then, pure, eat, expect, sort, sort_at, next}
-use Rattle.sr_syntax.specs.Grammar.{row, admits, is_in, joined_node, from_of, with, joined, row_from, sequence_from, assign, assign_goal, tree}
-use Rattle.sr_grammar.specs.Derivations.{end_after}
+use Rattle.sr_syntax.specs.Operators.{row, admits, is_in, joined_node, from_of, with, joined, row_from, assign_goal}
+use Rattle.sr_syntax.specs.Expressions.{sequence_from, assign}
+use Rattle.sr_syntax.specs.Grammar.{tree}
 use Rattle.sr_grammar.specs.Continuing.{looseness, Ends}
 use Rattle.sr_grammar.proofs.Steps.{inp, done, ending, eat_is, expect_is}
 use Rattle.sr_grammar.proofs.Gets.{Gets, gets_is, gets_then, gets_trans, gets_whole, is_in_level}
+use Rattle.sr_grammar.specs.Reading.{end_after}
+use Rattle.sr_grammar.proofs.Sorts.{comma_self}
 
 abbrev pub Reads : Parser Grown → List Lexeme → Grown → List Lexeme → ℕ → ℕ → Type 0
 Reads P us x r l n = Gets (P (inp (us ++ r) l n)) x.height (done x (inp r (end_after l us) n))
@@ -102,10 +105,6 @@ row_goes b operand level (suc m) x y t ts r l n last far c a fewer right = recor
 }
 
 -- ---- Assigns behind commas
-
-pub comma_self : same_sort k.Comma k.Comma ≡ true
-unfolding same_sort
-comma_self = refl
 
 pub sequence_ends : (b : Bool) (d m : ℕ) (xs : Grove) (r : List Lexeme) (l n : ℕ) → same_sort (sort_at r) k.Comma ≡ false → sequence_from (tree d) b m xs (inp r l n) ≡ Ok (xs, inp r l n)
 unfolding sequence_from

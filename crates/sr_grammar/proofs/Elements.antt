@@ -6,30 +6,17 @@ use Rattle.sr_syntax.specs.declared.sorts.Lexeme.{Lexeme}
 use Rattle.sr_syntax.specs.declared.grown.Elements.{Elements}
 use Rattle.sr_syntax.specs.Sorts.{same_sort}
 use Rattle.sr_syntax.specs.Input.{Input, Outcome, Parser, ◌>>=◌, and_then, pure, eat, expect, sees, after, left}
-use Rattle.sr_syntax.specs.Grammar.{one_element, array_from, elements, arguments_from, arguments, tree, no_elements, with_value, with_spread, with_hole}
-use Rattle.sr_grammar.specs.Derivations.{Adds, Commas, Arguments, Array, Assign, end_after}
+use Rattle.sr_syntax.specs.Operators.{no_elements, with_value, with_spread, with_hole}
+use Rattle.sr_syntax.specs.Expressions.{one_element, array_from, elements, arguments_from, arguments}
+use Rattle.sr_syntax.specs.Grammar.{tree}
+use Rattle.sr_grammar.specs.Derivations.{Adds, Commas, Arguments, Array, Assign}
 use Rattle.sr_grammar.specs.Derivations as g
 use Rattle.sr_grammar.proofs.Steps.{inp, Fact, Any, Parses, Both, both, Either, first, second, Never, Pure, nothing, Eaten, ate, absent, Expected, expected, Here, here, Chosen, yes, no, ChosenFault, yes_fault, no_fault, map, then_any, eaten, expecting, purely, choose_any, turns, finish, pred, not_both}
 use Rattle.sr_grammar.proofs.Depths.{lift_adds, lift_commas}
 use Rattle.sr_grammar.proofs.Facts.{Opened, opened, Mapped, mapped, mapping, Start, start, token}
 use Rattle.sr_grammar.proofs.Lists.{Nested, assoc}
 use Rattle.sr_grammar.proofs.Beginnings.{Begun, carry, begun_whole, begun_of, Turned, onwards, at_end, Broken, broken, turned_runs, turned_breaks, turned_grows}
-
-other_right : same_sort k.End k.RightParenthesis ≡ false
-unfolding same_sort
-other_right = refl
-
-other_bracket : same_sort k.End k.RightBracket ≡ false
-unfolding same_sort
-other_bracket = refl
-
-other_comma : same_sort k.End k.Comma ≡ false
-unfolding same_sort
-other_comma = refl
-
-other_ellipsis : same_sort k.End k.Ellipsis ≡ false
-unfolding same_sort
-other_ellipsis = refl
+use Rattle.sr_grammar.proofs.Sorts.{end_no_comma, end_no_ellipsis, end_no_right_bracket, end_no_right_parenthesis}
 
 -- ---- one element
 
@@ -82,10 +69,10 @@ record Closes (holes : Bool) (close : Sort) (D : ℕ → List Lexeme → Element
   last : {d : ℕ} {us vs : List Lexeme} {xs ys : Elements} → Commas holes d us xs → Adds d vs xs ys → (u : Lexeme) → u.sort ≡ close → D d (us ++ (vs ++ u ∷ [])) ys
 
 closes_arguments : Closes false k.RightParenthesis Arguments
-closes_arguments = record { other = other_right; over = λ w u c. g.comma_at_last w u c; last = λ w a u c. g.element_at_last w a u c }
+closes_arguments = record { other = end_no_right_parenthesis; over = λ w u c. g.comma_at_last w u c; last = λ w a u c. g.element_at_last w a u c }
 
 closes_array : Closes true k.RightBracket Array
-closes_array = record { other = other_bracket; over = λ w u c. g.array_comma_at_last w u c; last = λ w a u c. g.array_element_at_last w a u c }
+closes_array = record { other = end_no_right_bracket; over = λ w u c. g.array_comma_at_last w u c; last = λ w a u c. g.array_element_at_last w a u c }
 
 module _ {holes : Bool} {close : Sort} {D : ℕ → List Lexeme → Elements → Type 0} (c : Closes holes close D) where
   -- an element that is begun begins what closes
@@ -124,12 +111,12 @@ module _ (d : ℕ) (nest : Nested d) where
   pub adding : (found : Elements) → Parses (λ e. one_element (tree e) found) d Any (Added d found) (NotAdded found)
   unfolding one_element
   adding found = map (λ l n us ts x r. added_fact r) (λ l n us ts r. added_fault r)
-      (then_any (eaten k.Ellipsis other_ellipsis) (λ b. then_any (nest.assign true) (λ x. choose_any b (purely (with_spread found x)) (purely (with_value found x)))))
+      (then_any (eaten k.Ellipsis end_no_ellipsis) (λ b. then_any (nest.assign true) (λ x. choose_any b (purely (with_spread found x)) (purely (with_value found x)))))
 
   element_steps : {holes : Bool} {close : Sort} {D : ℕ → List Lexeme → Elements → Type 0} → Closes holes close D → (found : Elements)
       → Parses (λ e. element_step close e found) d Any (Turned (Listed holes) (Whole D) d found) (Broken (Listed holes) D d found)
   element_steps {holes} {close} c found = map (λ l n us ts x r. element_fact c r) (λ l n us ts r. element_fault c r)
-      (then_any (adding found) (λ all. then_any (eaten k.Comma other_comma) (λ b. choose_any b (purely (inl all)) (mapping (expecting close c.other) (λ u. inr all)))))
+      (then_any (adding found) (λ all. then_any (eaten k.Comma end_no_comma) (λ b. choose_any b (purely (inl all)) (mapping (expecting close c.other) (λ u. inr all)))))
 
 -- ---- turns
 
@@ -192,7 +179,7 @@ module _ (d : ℕ) (nest : Nested d) where
 
   argument_steps : (found : Elements) → Parses (λ e. argument_step e found) d Any (Turned (Listed false) (Whole Arguments) d found) (Broken (Listed false) Arguments d found)
   argument_steps found = map (λ l n us ts x r. argument_fact r) (λ l n us ts r. argument_fault r)
-      (then_any (eaten k.RightParenthesis other_right) (λ b. choose_any b (purely (inr found)) (element_steps d nest closes_arguments found)))
+      (then_any (eaten k.RightParenthesis end_no_right_parenthesis) (λ b. choose_any b (purely (inr found)) (element_steps d nest closes_arguments found)))
 
   pub arguing : Parses (λ e. arguments (tree e)) d Any (Argued d) NotArgued
   unfolding arguments left
@@ -260,8 +247,8 @@ module _ (d : ℕ) (nest : Nested d) where
 
   array_steps : (found : Elements) → Parses (λ e. array_step e found) d Any (Turned (Listed true) (Whole Array) d found) (Broken (Listed true) Array d found)
   array_steps found = map (λ l n us ts x r. array_fact r) (λ l n us ts r. array_fault r)
-      (then_any (eaten k.RightBracket other_bracket) (λ b. choose_any b (purely (inr found))
-      (then_any (eaten k.Comma other_comma) (λ h. choose_any h (purely (inl (with_hole found))) (element_steps d nest closes_array found)))))
+      (then_any (eaten k.RightBracket end_no_right_bracket) (λ b. choose_any b (purely (inr found))
+      (then_any (eaten k.Comma end_no_comma) (λ h. choose_any h (purely (inl (with_hole found))) (element_steps d nest closes_array found)))))
 
   pub arraying : Parses (λ e. elements (tree e)) d Any (Arrayed d) NotArrayed
   unfolding elements left

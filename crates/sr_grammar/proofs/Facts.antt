@@ -1,14 +1,16 @@
 -- What the rules read, in the words of the grammar.
-use Rattle.std.proofs.Common.{◌≡◌, ℕ, suc, ◌≤◌, ◌<◌, false, List, [], ◌∷◌, ◌++◌, Ok, refl, sym, ap, ◌∙◌, subst, append_assoc, append-nil, arith}
+use Rattle.std.proofs.Common.{◌≡◌, ℕ, suc, ◌≤◌, ◌<◌, Bool, true, false, List, [], ◌∷◌, ◌++◌, Ok, refl, sym, ap, ◌∙◌, subst, append_assoc, append-nil, arith}
 use Rattle.sr_ast.specs.declared.tree.Node.{Node}
 use Rattle.sr_syntax.specs.declared.sorts.Content.TheVariants.{Nothing}
 use Rattle.sr_syntax.specs.declared.sorts.Sort.{Sort}
+use Rattle.sr_syntax.specs.declared.sorts.Sort.TheVariants as k
 use Rattle.sr_syntax.specs.declared.sorts.Lexeme.{Lexeme}
 use Rattle.sr_syntax.specs.declared.grown.Grown.{Grown}
-use Rattle.sr_syntax.specs.Input.{Parser, ◌>>=◌, complete, max_depth}
-use Rattle.sr_grammar.specs.Derivations.{Symbol, Derives, end_after, whole}
+use Rattle.sr_syntax.specs.Input.{Parser, ◌>>=◌, complete, max_depth, sort_at}
+use Rattle.sr_grammar.specs.Derivations.{Symbol, Derives, whole}
 use Rattle.sr_grammar.specs.Faults.{Begins}
 use Rattle.sr_grammar.proofs.Steps.{Fact, Fault, Need, Parses, Both, both, Either, first, second, Never, Pure, nothing, Completed, completed, ending, map, then_any, purely, completing, end_append}
+use Rattle.sr_grammar.specs.Reading.{end_after}
 
 pub data Derived (d : ℕ) (s : Symbol) (l n : ℕ) (us ts : List Lexeme) (x : Grown) : Type 0 where
   derived : Derives d s us x → x.height ≤ max_depth → Derived d s l n us ts x
@@ -69,7 +71,7 @@ finished {d} {l} {n} {from} {tall} {s} {us} {ts} {node} {x} fits is at h =
 -- ---- tokens that could follow
 
 abbrev pub token : Sort → Lexeme
-token s = record { sort = s; content = Nothing; from = 0; to = 0; line_before = false }
+token s = record { sort = s; content = Nothing; from = 0; to = 0; line_before = false; ahead = k.End }
 
 -- ---- where symbols begin
 
@@ -110,3 +112,34 @@ begin_as fill {us} h = begin_in (λ vs. vs) (λ us vs. refl) fill us h
 pub begin_behind : {s p : Symbol} (ws : List Lexeme) (t : Lexeme) → ((e : ℕ) (vs : List Lexeme) (x : Grown) → Derives e p vs x → Fill s (ws ++ t ∷ vs))
     → {us : List Lexeme} → Begins p us → Begins s (ws ++ t ∷ us)
 begin_behind ws t fill {us} h = begin_in (λ vs. ws ++ t ∷ vs) (λ us vs. sym (append_assoc ws (t ∷ us) vs)) fill us h
+
+-- ---- statements and items
+
+-- a relation between tokens, those that follow, and trees
+abbrev pub Relation : Type 1
+Relation = ℕ → List Lexeme → List Lexeme → Grown → Type 0
+
+pub data Stood (Is : Relation) (d l n : ℕ) (us ts : List Lexeme) (x : Grown) : Type 0 where
+  stood : Is d us ts x → x.height ≤ max_depth → Stood Is d l n us ts x
+
+-- with one fewer that may be open
+pub data OpenedOne (Is : Relation) : ℕ → ℕ → ℕ → List Lexeme → List Lexeme → Grown → Type 0 where
+  opened_one : {d l n : ℕ} {us ts : List Lexeme} {x : Grown} → Is d us ts x → x.height ≤ max_depth → OpenedOne Is (suc d) l n us ts x
+
+-- no token that goes on with what may stand whole before it
+abbrev pub is_calm : Sort → Bool
+is_calm k.Else = false
+is_calm k.Catch = false
+is_calm k.Finally = false
+is_calm k.Semicolon = false
+is_calm _ = true
+
+-- The tokens begin one: they and more are one before whatever does not go on with it.
+pub record BeginsOne (Is : Relation) (us : List Lexeme) : Type 0 where
+  pub depth : ℕ
+  pub more : List Lexeme
+  pub made : Grown
+  pub is : (ts : List Lexeme) → is_calm (sort_at ts) ≡ true → Is depth (us ++ more) ts made
+
+pub data StartOne (Is : Relation) (l n : ℕ) (us ts : List Lexeme) : Type 0 where
+  start_one : BeginsOne Is us → StartOne Is l n us ts

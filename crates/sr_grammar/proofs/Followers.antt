@@ -5,7 +5,7 @@ use Rattle.sr_syntax.specs.declared.sorts.Lexeme.{Lexeme}
 use Rattle.sr_syntax.specs.declared.grown.Grown.{Grown}
 use Rattle.sr_syntax.specs.Sorts.{same_sort}
 use Rattle.sr_syntax.specs.Input.{sort_at, max_depth}
-use Rattle.sr_syntax.specs.Grammar.{is_bare_new}
+use Rattle.sr_syntax.specs.Operators.{is_bare_new}
 use Rattle.sr_grammar.specs.Derivations.{Derives, New}
 
 -- the next token begins no part of a Member

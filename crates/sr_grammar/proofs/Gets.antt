@@ -10,7 +10,7 @@ use Rattle.sr_syntax.specs.declared.sorts.Lexeme.{Lexeme}
 use Rattle.sr_syntax.specs.declared.refusal.Refusal.TheVariants.{TooDeep}
 use Rattle.sr_syntax.specs.Sorts.{same_sort}
 use Rattle.sr_syntax.specs.Input.{Input, Outcome, Parser, and_then, sort_at, line_at, complete, max_depth}
-use Rattle.sr_syntax.specs.Grammar.{row, admits, is_in, assignment, update_after}
+use Rattle.sr_syntax.specs.Operators.{row, admits, is_in, assignment, update_after}
 use Rattle.sr_grammar.specs.Continuing.{looseness, Ends}
 use Rattle.sr_grammar.proofs.Steps.{inp, done, ending, complete_is, same_sort_true}
 

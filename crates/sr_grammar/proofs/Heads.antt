@@ -7,7 +7,7 @@ use Rattle.sr_syntax.specs.declared.sorts.Lexeme.{Lexeme}
 use Rattle.sr_syntax.specs.declared.grown.Grown.{Grown}
 use Rattle.sr_syntax.specs.Sorts.{same_sort}
 use Rattle.sr_syntax.specs.Input.{sort_at}
-use Rattle.sr_syntax.specs.Grammar.{prefix, update_before}
+use Rattle.sr_syntax.specs.Operators.{prefix, update_before}
 use Rattle.sr_grammar.specs.Derivations.{Derives, New, Chain, Primary, Left, Update}
 use Rattle.sr_grammar.specs.Derivations as g
 
@@ -39,6 +39,9 @@ primary_head (g.text {t} c) r = first_of k.Text t.sort c (record { operator = re
 primary_head (g.plain_template {t} c) r = first_of k.TemplateWhole t.sort c (record { operator = record { prefix = refl; update = refl }; new = refl })
 primary_head (g.template {t} c w h u e) r = first_of k.TemplateHead t.sort c (record { operator = record { prefix = refl; update = refl }; new = refl })
 primary_head (g.array {t} c a) r = first_of k.LeftBracket t.sort c (record { operator = record { prefix = refl; update = refl }; new = refl })
+primary_head (g.object {t} c a) r = first_of k.LeftBrace t.sort c (record { operator = record { prefix = refl; update = refl }; new = refl })
+primary_head (g.function_alone {t} c a) r = first_of k.Function t.sort c (record { operator = record { prefix = refl; update = refl }; new = refl })
+primary_head (g.function_named {t} c e a) r = first_of k.Function t.sort c (record { operator = record { prefix = refl; update = refl }; new = refl })
 primary_head (g.parenthesized {t} c h u e) r = first_of k.LeftParenthesis t.sort c (record { operator = record { prefix = refl; update = refl }; new = refl })
 
 -- a New begins with `new`
@@ -58,7 +61,7 @@ chain_head (g.one_new h is) r = new_head h r
 chain_head (g.named {us} h t c u e) r = behind us (t ∷ u ∷ []) r (chain_head h (t ∷ u ∷ r))
 chain_head (g.indexed {us} {vs} h t c i u e) r = behind us (t ∷ (vs ++ u ∷ [])) r (chain_head h (t ∷ ((vs ++ u ∷ []) ++ r)))
 chain_head (g.called {us} {vs} h t c a) r = behind us (t ∷ vs) r (chain_head h (t ∷ (vs ++ r)))
-chain_head (g.optional_named {us} h t c u e o) r = behind us (t ∷ u ∷ []) r (chain_head h (t ∷ u ∷ r))
+chain_head (g.optional_named {us} h t c u e) r = behind us (t ∷ u ∷ []) r (chain_head h (t ∷ u ∷ r))
 chain_head (g.optional_indexed {us} {vs} h t c w e i u q) r = behind us (t ∷ w ∷ (vs ++ u ∷ [])) r (chain_head h (t ∷ w ∷ ((vs ++ u ∷ []) ++ r)))
 chain_head (g.optional_called {us} {vs} h t c w e a) r = behind us (t ∷ w ∷ vs) r (chain_head h (t ∷ w ∷ (vs ++ r)))
 

@@ -6,19 +6,21 @@ use Rattle.sr_syntax.specs.declared.sorts.Lexeme.{Lexeme}
 use Rattle.sr_syntax.specs.declared.grown.Grown.{Grown}
 use Rattle.sr_syntax.specs.declared.refusal.Refusal.TheVariants.{Memory, Syntax, TooDeep}
 use Rattle.sr_syntax.specs.Input.{Input, Outcome, start, place_at, max_depth}
-use Rattle.sr_syntax.specs.Grammar.{expression, tree}
-use Rattle.sr_grammar.specs.Derivations.{Derives, Expression, end_after}
+use Rattle.sr_syntax.specs.Expressions.{expression}
+use Rattle.sr_syntax.specs.Grammar.{tree}
+use Rattle.sr_grammar.specs.Derivations.{Derives, Expression}
 use Rattle.sr_grammar.specs.Continuing.{EndsExpression}
 use Rattle.sr_grammar.specs.Stopping.{Stops}
 use Rattle.sr_grammar.specs.Laws.{Sound, Complete, TooTall, Unique, Ended, FirstFault, MoreOpen, OpensTooMany, Longest, behind}
-use Rattle.sr_grammar.proofs.Steps.{inp, head, done, fault_at, along}
+use Rattle.sr_grammar.proofs.Steps.{inp, done, fault_at, along}
 use Rattle.sr_grammar.proofs.Depths.{lift}
-use Rattle.sr_grammar.proofs.Facts.{Derived, derived, Start}
+use Rattle.sr_grammar.proofs.Facts.{derived}
 use Rattle.sr_grammar.proofs.Facts as facts
 use Rattle.sr_grammar.proofs.Lists.{expressions}
-use Rattle.sr_grammar.proofs.Assigns.{nests}
+use Rattle.sr_grammar.proofs.Nests.{nests}
 use Rattle.sr_grammar.proofs.Completing.{Reads}
 use Rattle.sr_grammar.proofs.Completeness.{reads}
+use Rattle.sr_grammar.specs.Reading.{end_after, head}
 
 pub sound_law : Sound
 sound_law b d size ts x i h =

@@ -10,22 +10,21 @@ use Rattle.sr_syntax.specs.declared.grown.Pieces.{Pieces}
 use Rattle.sr_syntax.specs.declared.grown.Goal.TheVariants as goal
 use Rattle.sr_syntax.specs.Sorts.{same_sort}
 use Rattle.sr_syntax.specs.Input.{Outcome, Parser, ◌>>=◌, and_then, pure, eat, expect, sort, sort_at, left, next, complete, text, text_of}
-use Rattle.sr_syntax.specs.Grammar.{no_elements, with_value, with_spread, with_hole, one_piece, with_piece, one_element, array_from, elements, array, arguments_from, arguments, piece_by, pieces_from, pieces, template, plain_template, tree}
-use Rattle.sr_grammar.specs.Derivations.{Derives, Expression, Assign, Primary, end_after, whole}
+use Rattle.sr_syntax.specs.Operators.{no_elements, with_value, with_spread, with_hole, one_piece, with_piece, plain_template}
+use Rattle.sr_syntax.specs.Expressions.{one_element, array_from, elements, array, arguments_from, arguments, piece_by, pieces_from, pieces, template}
+use Rattle.sr_syntax.specs.Grammar.{tree}
+use Rattle.sr_grammar.specs.Derivations.{Derives, Expression, Assign, Primary, whole}
 use Rattle.sr_grammar.specs.Continuing.{Ends}
 use Rattle.sr_grammar.proofs.Steps.{inp, done, ending, end_append}
 use Rattle.sr_grammar.proofs.Starting.{starting, starts, not_close}
 use Rattle.sr_grammar.proofs.Gets.{Gets, gets_is, gets_to, gets_then, gets_trans, gets_now, gets_max, gets_at, gets_whole}
-use Rattle.sr_grammar.proofs.Completing.{Turns, loose_sort, expect_goes, eat_yes, eat_no, comma_self}
-use Rattle.sr_grammar.proofs.Claims.{Claim, gets_move, end_at, primary_is, right_self}
-use Rattle.sr_grammar.proofs.Parting.{bracket_self}
+use Rattle.sr_grammar.proofs.Completing.{Turns, loose_sort, expect_goes, eat_yes, eat_no}
+use Rattle.sr_grammar.proofs.Claims.{Claim, gets_move, end_at, primary_is}
 use Rattle.sr_grammar.proofs.Chains.{ArgumentsClaim}
+use Rattle.sr_grammar.specs.Reading.{end_after}
+use Rattle.sr_grammar.proofs.Sorts.{comma_no_right_bracket, comma_self, ellipsis_no_comma, ellipsis_no_right_bracket, ellipsis_no_right_parenthesis, ellipsis_self, right_bracket_no_comma, right_bracket_self, right_parenthesis_no_comma, right_parenthesis_self}
 
 -- ---- one element
-
-ellipsis_self : same_sort k.Ellipsis k.Ellipsis ≡ true
-unfolding same_sort
-ellipsis_self = refl
 
 -- how an element that is added is read, where no token of another kind begins it
 pub record Added (d : ℕ) (us : List Lexeme) (xs ys : Elements) : Type 0 where
@@ -75,30 +74,6 @@ abbrev pub close : Bool → Sort
 close false = k.RightParenthesis
 close true = k.RightBracket
 
-comma_no_parenthesis : same_sort k.RightParenthesis k.Comma ≡ false
-unfolding same_sort
-comma_no_parenthesis = refl
-
-comma_no_bracket : same_sort k.RightBracket k.Comma ≡ false
-unfolding same_sort
-comma_no_bracket = refl
-
-bracket_no_comma : same_sort k.Comma k.RightBracket ≡ false
-unfolding same_sort
-bracket_no_comma = refl
-
-other_parenthesis : same_sort k.Ellipsis k.RightParenthesis ≡ false
-unfolding same_sort
-other_parenthesis = refl
-
-other_bracket : same_sort k.Ellipsis k.RightBracket ≡ false
-unfolding same_sort
-other_bracket = refl
-
-other_comma : same_sort k.Ellipsis k.Comma ≡ false
-unfolding same_sort
-other_comma = refl
-
 -- behind an element: a comma and more, or the end
 abbrev behind_one : Bool → ℕ → ℕ → Elements → Parser Elements
 behind_one holes d m all = eat k.Comma >>= (λ more. if more then turn holes d m all else (expect (close holes) >>= (λ u. pure all)))
@@ -107,16 +82,16 @@ over_goes : (holes : Bool) (d m : ℕ) (xs : Elements) (u : Lexeme) (r : List Le
 unfolding arguments_from array_from
 over_goes holes d zero xs u r l n far c = absurd (omega (arith, far))
 over_goes false d (suc m) xs u r l n far c =
-    eat_yes k.RightParenthesis u r l n c right_self (λ is_over. if is_over then pure xs else (one_element (tree d) xs >>= (λ all. behind_one false d m all)))
+    eat_yes k.RightParenthesis u r l n c right_parenthesis_self (λ is_over. if is_over then pure xs else (one_element (tree d) xs >>= (λ all. behind_one false d m all)))
 over_goes true d (suc m) xs u r l n far c =
-    eat_yes k.RightBracket u r l n c bracket_self
+    eat_yes k.RightBracket u r l n c right_bracket_self
     (λ is_over. if is_over then pure xs else (eat k.Comma >>= (λ is_hole. if is_hole then array_from (tree d) m (with_hole xs) else (one_element (tree d) xs >>= (λ all. behind_one true d m all)))))
 
 hole_goes : (d m : ℕ) (xs : Elements) (t : Lexeme) (r : List Lexeme) (l n : ℕ) → t.sort ≡ k.Comma → array_from (tree d) (suc m) xs (inp (t ∷ r) l n) ≡ array_from (tree d) m (with_hole xs) (inp r t.to n)
 unfolding array_from
 hole_goes d m xs t r l n c =
     let body : Bool → Parser Elements = λ is_hole. if is_hole then array_from (tree d) m (with_hole xs) else (one_element (tree d) xs >>= (λ all. behind_one true d m all)) in
-    eat_no k.RightBracket (t ∷ r) l n (ap (λ s. same_sort s k.RightBracket) c ∙ bracket_no_comma) (λ is_over. if is_over then pure xs else (eat k.Comma >>= body))
+    eat_no k.RightBracket (t ∷ r) l n (ap (λ s. same_sort s k.RightBracket) c ∙ comma_no_right_bracket) (λ is_over. if is_over then pure xs else (eat k.Comma >>= body))
     ∙ eat_yes k.Comma t r l n c comma_self body
 
 -- a turn that reads an element
@@ -124,11 +99,11 @@ one_goes : (holes : Bool) (d m : ℕ) (us : List Lexeme) (xs ys : Elements) (w :
     → turn holes d (suc m) xs (inp (us ++ r) l n) ≡ and_then (one_element (tree d) xs (inp (us ++ r) l n)) (behind_one holes d m)
 unfolding arguments_from array_from
 one_goes false d m us xs ys w r l n =
-    eat_no k.RightParenthesis (us ++ r) l n (w.first k.RightParenthesis refl other_parenthesis r) (λ is_over. if is_over then pure xs else (one_element (tree d) xs >>= (λ all. behind_one false d m all)))
+    eat_no k.RightParenthesis (us ++ r) l n (w.first k.RightParenthesis refl ellipsis_no_right_parenthesis r) (λ is_over. if is_over then pure xs else (one_element (tree d) xs >>= (λ all. behind_one false d m all)))
 one_goes true d m us xs ys w r l n =
     let body : Bool → Parser Elements = λ is_hole. if is_hole then array_from (tree d) m (with_hole xs) else (one_element (tree d) xs >>= (λ all. behind_one true d m all)) in
-    eat_no k.RightBracket (us ++ r) l n (w.first k.RightBracket refl other_bracket r) (λ is_over. if is_over then pure xs else (eat k.Comma >>= body))
-    ∙ eat_no k.Comma (us ++ r) l n (w.first k.Comma refl other_comma r) body
+    eat_no k.RightBracket (us ++ r) l n (w.first k.RightBracket refl ellipsis_no_right_bracket r) (λ is_over. if is_over then pure xs else (eat k.Comma >>= body))
+    ∙ eat_no k.Comma (us ++ r) l n (w.first k.Comma refl ellipsis_no_comma r) body
 
 one_before_comma : (holes : Bool) (d m : ℕ) (us : List Lexeme) (xs ys : Elements) (w : Added d us xs ys) (t : Lexeme) (r : List Lexeme) (l n : ℕ) → t.sort ≡ k.Comma
     → Gets (turn holes d (suc m) xs (inp (us ++ t ∷ r) l n)) w.height (turn holes d m ys (inp r t.to n))
@@ -141,12 +116,12 @@ one_before_comma holes d m us xs ys w t r l n c =
     gets_then_any g f = record { fits = λ p. ap (λ o. and_then o f) (g.fits p); deep = λ p. ap (λ o. and_then o f) (g.deep p) }
 
 close_self : (holes : Bool) → same_sort (close holes) (close holes) ≡ true
-close_self false = right_self
-close_self true = bracket_self
+close_self false = right_parenthesis_self
+close_self true = right_bracket_self
 
 close_no_comma : (holes : Bool) → same_sort (close holes) k.Comma ≡ false
-close_no_comma false = comma_no_parenthesis
-close_no_comma true = comma_no_bracket
+close_no_comma false = right_parenthesis_no_comma
+close_no_comma true = right_bracket_no_comma
 
 close_ends : (holes : Bool) (u : Lexeme) → u.sort ≡ close holes → (r : List Lexeme) → Ends true 15 (u ∷ r)
 close_ends false u c r = loose_sort true u k.RightParenthesis 15 c (λ line. omega arith) r

@@ -8,20 +8,26 @@ use Rattle.sr_syntax.specs.declared.grown.Grove.{Grove}
 use Rattle.sr_syntax.specs.declared.grown.Goal.TheVariants as goal
 use Rattle.sr_syntax.specs.Sorts.{same_sort}
 use Rattle.sr_syntax.specs.Input.{Input, Outcome, Parser, ◌>>=◌, and_then, pure, eat, sees, after, sort, sort_at, left, max_depth}
-use Rattle.sr_syntax.specs.Grammar.{assign_goal, sequence_from, sequence, expression, tree, none, with, from_of}
-use Rattle.sr_grammar.specs.Derivations.{Symbol, Derives, Lists, Assign, Expression, Power, Unary, New, end_after, whole}
+use Rattle.sr_syntax.specs.Operators.{assign_goal, none, with, from_of}
+use Rattle.sr_syntax.specs.Expressions.{sequence_from, sequence, expression}
+use Rattle.sr_syntax.specs.Grammar.{tree}
+use Rattle.sr_grammar.specs.Derivations.{Derives, Lists, Assign, Expression, Power, Unary, New, States, IsItem}
 use Rattle.sr_grammar.specs.Derivations as g
 use Rattle.sr_grammar.specs.Faults.{Begins}
 use Rattle.sr_grammar.proofs.Steps.{inp, Fact, Any, Parses, Both, both, Either, first, second, Never, Pure, nothing, Looked, looked, Eaten, ate, absent, Chosen, yes, no, ChosenFault, yes_fault, no_fault, Runs, stop, go, Breaks, break, later, map, then_any, look, sort_shallow, eaten, purely, choose_any, turns, finish, pred, not_both, done, ending, end_append}
 use Rattle.sr_grammar.proofs.Depths.{by_more, list_by_more}
 use Rattle.sr_grammar.proofs.Followers.{OpenedNew}
-use Rattle.sr_grammar.proofs.Facts.{Derived, derived, Opened, opened, Mapped, mapped, mapping, Closed, closed, closing, bare, known_as, finished, end_behind, Start, start, Fill, begin_as, begin_behind, filled}
+use Rattle.sr_grammar.proofs.Facts.{Derived, derived, Opened, opened, Mapped, mapped, mapping, Closed, closed, closing, bare, known_as, finished, end_behind, Start, start, Fill, begin_as, begin_behind, filled, OpenedOne, StartOne}
+use Rattle.sr_grammar.specs.Reading.{end_after}
+use Rattle.sr_grammar.proofs.Sorts.{end_no_comma}
 
 pub record Nested (d : ℕ) : Type 0 where
   pub assign : (b : Bool) → Parses (λ e. tree e (assign_goal b)) d Any (Opened (Assign b) d) (Start (Assign b))
   pub power : Parses (λ e. tree e goal.Power) d Any (Opened Power d) (Start Power)
   pub unary : Parses (λ e. tree e goal.Unary) d Any (Opened Unary d) (Start Unary)
   pub new : Parses (λ e. tree e goal.New) d Any (OpenedNew d) (Start New)
+  pub statement : Parses (λ e. tree e goal.Statement) d Any (OpenedOne States d) (StartOne States)
+  pub item : Parses (λ e. tree e goal.Item) d Any (OpenedOne IsItem d) (StartOne IsItem)
 
 -- ---- Assigns behind commas
 
@@ -47,10 +53,6 @@ pub data OneMore (has : Bool) (d : ℕ) (found : Grove) (l n : ℕ) : List Lexem
 pub data NotOneMore (has : Bool) (l n : ℕ) : List Lexeme → List Lexeme → Type 0 where
   not_one_more : {us ts : List Lexeme} (t : Lexeme) → t.sort ≡ k.Comma → Start (Assign has) t.to n us ts → NotOneMore has l n (t ∷ us) ts
 
-other_comma : same_sort k.End k.Comma ≡ false
-unfolding same_sort
-other_comma = refl
-
 sequence_fact : {has : Bool} {d l n : ℕ} {us ts : List Lexeme} {o : Grove ⊎ Grove} {found : Grove}
     → Both (Eaten k.Comma) (λ b. Chosen b (Mapped (Opened (Assign has) d) (λ x. inl (with found x))) (Pure (inr found))) l n us ts o → OneMore has d found l n us ts o
 sequence_fact (both (ate t c e) (yes f (mapped x h is))) = one_more t c h is
@@ -75,7 +77,7 @@ module _ (has : Bool) (d : ℕ) (nest : Nested d) where
 
   sequence_steps : (found : Grove) → Parses (λ e. sequence_step has e found) d Any (OneMore has d found) (NotOneMore has)
   sequence_steps found = map (λ l n us ts x r. sequence_fact r) (λ l n us ts r. sequence_fault r)
-      (then_any (eaten k.Comma other_comma) (λ b. choose_any b (mapping (nest.assign has) (λ x. inl (with found x))) (purely (inr found))))
+      (then_any (eaten k.Comma end_no_comma) (λ b. choose_any b (mapping (nest.assign has) (λ x. inl (with found x))) (purely (inr found))))
 
   sequence_turn : (m e : ℕ) (found : Grove) (b : Bool) (i : Input)
       → (if b then (tree e (assign_goal has) >>= (λ x. sequence_from (tree e) has m (with found x))) else pure found) i

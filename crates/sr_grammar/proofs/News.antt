@@ -1,16 +1,17 @@
 -- What `new` reads, and where it fails.
-use Rattle.std.proofs.Common.{◌≡◌, ℕ, suc, ◌+◌, ◌≤◌, ◌<◌, max, Bool, true, false, List, [], ◌∷◌, ◌++◌, Some, None, refl, sym, ap, ◌∙◌, subst, append_assoc, append-nil, arith}
+use Rattle.std.proofs.Common.{◌≡◌, ℕ, suc, ◌+◌, max, Bool, true, false, List, [], ◌∷◌, ◌++◌, Some, None, refl, sym, ap, ◌∙◌, subst, append_assoc, append-nil, arith}
 use Rattle.sr_ast.specs.declared.tree.Node as nodes
-use Rattle.sr_ast.specs.declared.tree.Node.{Node}
 use Rattle.sr_ast.specs.declared.tree.Node.TheVariants as node
 use Rattle.sr_syntax.specs.declared.sorts.Sort.TheVariants as k
 use Rattle.sr_syntax.specs.declared.sorts.Lexeme.{Lexeme}
 use Rattle.sr_syntax.specs.declared.grown.Grown.{Grown}
 use Rattle.sr_syntax.specs.declared.grown.Elements.{Elements}
 use Rattle.sr_syntax.specs.Sorts.{same_sort}
-use Rattle.sr_syntax.specs.Input.{sort, place, max_depth}
-use Rattle.sr_syntax.specs.Grammar.{constructor, constructed, new_, tree, is_bare_new}
-use Rattle.sr_grammar.specs.Derivations.{Symbol, Derives, Arguments, New, Constructor, Member, Primary, end_after, whole}
+use Rattle.sr_syntax.specs.Input.{sort, place}
+use Rattle.sr_syntax.specs.Operators.{is_bare_new}
+use Rattle.sr_syntax.specs.Expressions.{constructor, constructed, new_}
+use Rattle.sr_syntax.specs.Grammar.{tree}
+use Rattle.sr_grammar.specs.Derivations.{Derives, Arguments, New, Constructor, Member, Primary, whole}
 use Rattle.sr_grammar.specs.Derivations as g
 use Rattle.sr_grammar.proofs.Steps.{Fact, Any, Parses, Both, both, Either, first, second, Never, Looked, looked, Eaten, ate, absent, Expected, expected, Here, here, Completed, completed, Chosen, yes, no, ChosenFault, yes_fault, no_fault, map, then_any, look, sort_shallow, place_shallow, eaten, expecting, completing, choose_any, not_both, ending, end_append}
 use Rattle.sr_grammar.proofs.Depths.{lift, lift_arguments}
@@ -21,18 +22,9 @@ use Rattle.sr_grammar.proofs.Beginnings.{Begun, Of, carry, onward, begun_whole, 
 use Rattle.sr_grammar.proofs.Elements.{Argued, argued, NotArgued, not_argued, arguing}
 use Rattle.sr_grammar.proofs.Primaries.{primaries}
 use Rattle.sr_grammar.proofs.Chained.{InMember, in_member, in_bare, Built, built_member, built_bare, MemberParted, member_parted, NotMemberParted, not_member_parted, member_partings}
-
-other_left : same_sort k.End k.LeftParenthesis ≡ false
-unfolding same_sort
-other_left = refl
-
-other_new : same_sort k.End k.New ≡ false
-unfolding same_sort
-other_new = refl
-
-left_is : same_sort k.LeftParenthesis k.LeftParenthesis ≡ true
-unfolding same_sort
-left_is = refl
+use Rattle.sr_grammar.specs.Reading.{end_after}
+use Rattle.sr_grammar.proofs.Sorts.{end_no_left_parenthesis, end_no_new, left_parenthesis_self}
+use Rattle.sr_grammar.proofs.Parts.{fitting}
 
 -- ---- what `new` makes one of
 
@@ -86,21 +78,18 @@ ConstructedFault = Either Never (Eaten k.LeftParenthesis) (λ b. ChosenFault b N
 
 pub constructeds : (d : ℕ) → Nested d → (from : ℕ) (of : Grown) → Parses (λ e. constructed (tree e) from of) d Any (ConstructedFact d from of) ConstructedFault
 unfolding constructed
-constructeds d nest from of = then_any (eaten k.LeftParenthesis other_left) (λ b. choose_any b
+constructeds d nest from of = then_any (eaten k.LeftParenthesis end_no_left_parenthesis) (λ b. choose_any b
     (closing (arguing d nest) (λ all. node.New of.tree (Some all.items)) (λ all. from) (λ all. max of.height all.tall))
     (completing (node.New of.tree None) from of.height))
 
 -- ---- the whole
-
-fits_whole : {tall from to : ℕ} {node : Node} {x : Grown} → tall < max_depth → x ≡ ending node from to tall → x.height ≤ max_depth
-fits_whole fits is = subst (λ x. x.height ≤ max_depth) (sym is) (omega (arith, fits))
 
 with_arguments : (of : Grown) (xs : Elements) (from to : ℕ) → is_bare_new (ending (node.New of.tree (Some xs.items)) from to (max of.height xs.tall)) ≡ true → ⊥
 unfolding is_bare_new nodes.out-Node denote.Hole.Carrier.out
 with_arguments of xs from to h = cc
 
 no_call_next : {ts : List Lexeme} (t : Lexeme) → t.sort ≡ k.LeftParenthesis → Uncalled (t ∷ ts) → ⊥
-no_call_next t c u = not_both (ap (λ s. same_sort s k.LeftParenthesis) c ∙ left_is) u.no_call
+no_call_next t c u = not_both (ap (λ s. same_sort s k.LeftParenthesis) c ∙ left_parenthesis_self) u.no_call
 
 new_fact : {d l n from : ℕ} {us vs ts : List Lexeme} {of x : Grown} (t : Lexeme) → t.sort ≡ k.New → from ≡ t.from → Built d us (vs ++ ts) of
     → ConstructedFact d from of (end_after t.to us) n vs ts x → DerivedNew d l n (t ∷ (us ++ vs)) ts x
@@ -108,13 +97,13 @@ new_fact {d} {us = us} {of = of} {x = x} t c f (built_member h b p) (both {vs = 
     let y : Grown = whole (node.New of.tree (Some xs.items)) t.from (t ∷ (us ++ v ∷ vs)) (max of.height xs.tall) in
     let same : x ≡ y = is ∙ (ap (λ m. ending (node.New of.tree (Some xs.items)) m (end_after v.to vs) (max of.height xs.tall)) f
     ∙ ap (λ m. ending (node.New of.tree (Some xs.items)) t.from m (max of.height xs.tall)) (sym (end_append t.to us (v ∷ vs)))) in
-    derived_new (subst (λ z. Derives d New (t ∷ (us ++ v ∷ vs)) z) (sym same) (g.new_called c h v i a)) (fits_whole fits is)
+    derived_new (subst (λ z. Derives d New (t ∷ (us ++ v ∷ vs)) z) (sym same) (g.new_called c h v i a)) (fitting fits is)
     (λ bare. absurd (with_arguments of xs t.from (end_after t.to (us ++ v ∷ vs)) (ap is_bare_new (sym same) ∙ bare)))
 new_fact t c f (built_bare h b u) (both (ate v i e) (yes j r)) = absurd (no_call_next v i u)
 new_fact t c f m (both (ate v i e) (no j r)) = absurd (not_both e j)
 new_fact t c f m (both (absent e o) (yes j r)) = absurd (not_both j e)
 new_fact {d} {l} {n} {us = us} {of = of} {x = x} t c f m (both (absent e o) (no j (completed {ts} fits is))) =
-    subst (λ zs. DerivedNew d l n (t ∷ zs) ts x) (sym (append-nil us)) (derived_new (subst (λ z. Derives d New (t ∷ us) z) (sym same) (g.new_bare c (go m))) (fits_whole fits is) (λ bare. apart m))
+    subst (λ zs. DerivedNew d l n (t ∷ zs) ts x) (sym (append-nil us)) (derived_new (subst (λ z. Derives d New (t ∷ us) z) (sym same) (g.new_bare c (go m))) (fitting fits is) (λ bare. apart m))
   where
     same : x ≡ whole (node.New of.tree None) t.from (t ∷ us) of.height
     same = is ∙ ap (λ m. ending (node.New of.tree None) m (end_after t.to us) of.height) f
@@ -166,4 +155,4 @@ whole_fault (second (looked e) (second (expected t c) (second (built m) r))) = s
 pub news : (d : ℕ) → Nested d → Parses (λ e. new_ (tree e)) d Any (DerivedNew d) (Start New)
 unfolding new_
 news d nest = map (λ l n us ts x r. whole_fact r) (λ l n us ts r. whole_fault r)
-    (then_any (look place place_shallow) (λ from. then_any (expecting k.New other_new) (λ u. then_any (constructors d nest) (λ of. constructeds d nest from of))))
+    (then_any (look place place_shallow) (λ from. then_any (expecting k.New end_no_new) (λ u. then_any (constructors d nest) (λ of. constructeds d nest from of))))

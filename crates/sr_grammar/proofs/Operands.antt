@@ -7,10 +7,11 @@ use Rattle.sr_syntax.specs.declared.sorts.Sort.TheVariants as k
 use Rattle.sr_syntax.specs.declared.sorts.Sort.{Sort}
 use Rattle.sr_syntax.specs.declared.sorts.Lexeme.{Lexeme}
 use Rattle.sr_syntax.specs.declared.grown.Grown.{Grown}
-use Rattle.sr_syntax.specs.Sorts.{same_sort}
 use Rattle.sr_syntax.specs.Input.{Input, sort, sort_at, line_before, line_at}
-use Rattle.sr_syntax.specs.Grammar.{prefix, is_prefix, is_prefix_of, update_before, update_after, from_of, is_target, steps, stepped, step_by, step_after, update_by, update, unary_by, unary_, raised, power, joined, joined_node, tree}
-use Rattle.sr_grammar.specs.Derivations.{Symbol, Derives, Left, Chain, Update, Unary, Power, end_after, whole}
+use Rattle.sr_syntax.specs.Operators.{prefix, is_prefix, is_prefix_of, update_before, update_after, from_of, is_target, steps, joined, joined_node}
+use Rattle.sr_syntax.specs.Expressions.{stepped, step_by, step_after, update_by, update, unary_by, unary_, raised, power}
+use Rattle.sr_syntax.specs.Grammar.{tree}
+use Rattle.sr_grammar.specs.Derivations.{Derives, Left, Chain, Update, Unary, Power}
 use Rattle.sr_grammar.specs.Derivations as g
 use Rattle.sr_grammar.specs.Faults.{Begins}
 use Rattle.sr_grammar.proofs.Steps.{inp, Fact, Any, Parses, Both, both, Either, first, second, Never, Nowhere, Pure, nothing, Looked, looked, Taken, taken, Eaten, ate, absent, Here, here, Completed, completed, Chosen, yes, no, ChosenFault, yes_fault, no_fault, map, map_given, given, then_any, bind, look, take, Shallow, Some_left, At, by_first, sort_shallow, eaten, purely, refused, completing, choose_any, not_both, ending, end_append, sort_alike, line_alike}
@@ -19,6 +20,8 @@ use Rattle.sr_grammar.proofs.Facts.{Derived, derived, Opened, opened, Closed, cl
 use Rattle.sr_grammar.proofs.Lists.{Nested}
 use Rattle.sr_grammar.proofs.Targets.{Plain, plain, chain_of_plain, left_of_plain, step_of_chain}
 use Rattle.sr_grammar.proofs.Sides.{left_sides, unit_of, unit_shallow}
+use Rattle.sr_grammar.specs.Reading.{end_after}
+use Rattle.sr_grammar.proofs.Sorts.{end_no_power}
 
 -- the next token has the kind that was seen
 abbrev some_left : {X : Type 0} (f : Sort → X) (v : X) (from : ℕ) → (f k.End ≡ v → ⊥) → (ts : List Lexeme) → At f v from ts → Some_left ts
@@ -150,10 +153,6 @@ module _ (d : ℕ) (nest : Nested d) where
 
 -- ---- powers
 
-other_power : same_sort k.End k.Power ≡ false
-unfolding same_sort
-other_power = refl
-
 abbrev RaisedFact : ℕ → Grown → Fact Grown
 RaisedFact d base = Both (Eaten k.Power) (λ b. Chosen b (Closed (Opened Power d) (λ x. joined_node k.Power base.tree x.tree) (λ x. from_of base) (λ x. max base.height x.height)) (Pure base))
 
@@ -197,4 +196,4 @@ pub powers : (d : ℕ) → Nested d → Parses (λ e. power (tree e)) d Any (Der
 unfolding power raised joined
 powers d nest = map (λ l n us ts x r. power_fact r) (λ l n us ts r. power_fault r)
     (then_any (look sort sort_shallow) (λ s. then_any nest.unary (λ base. choose_any (is_prefix s) (purely base)
-    (then_any (eaten k.Power other_power) (λ b. choose_any b (closing nest.power (λ x. joined_node k.Power base.tree x.tree) (λ x. from_of base) (λ x. max base.height x.height)) (purely base))))))
+    (then_any (eaten k.Power end_no_power) (λ b. choose_any b (closing nest.power (λ x. joined_node k.Power base.tree x.tree) (λ x. from_of base) (λ x. max base.height x.height)) (purely base))))))

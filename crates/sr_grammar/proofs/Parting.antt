@@ -12,22 +12,21 @@ use Rattle.sr_syntax.specs.declared.operators.PartSort.{PartSort}
 use Rattle.sr_syntax.specs.declared.operators.PartSort.TheVariants as part
 use Rattle.sr_syntax.specs.Sorts.{same_sort}
 use Rattle.sr_syntax.specs.Input.{Input, Parser, ◌>>=◌, and_then, expect, sort, sort_at, next, complete, text, text_of, is_word, sees_word}
-use Rattle.sr_syntax.specs.Grammar.{from_of, part_sort, property_name, member, index, call, arguments, expression, optional_by, optional, part_by, parts_from, member_part_by, member_parts_from, tree}
-use Rattle.sr_grammar.specs.Derivations.{is_bracket, end_after}
+use Rattle.sr_syntax.specs.Operators.{from_of, part_sort, property_name, member}
+use Rattle.sr_syntax.specs.Expressions.{index, call, arguments, expression, optional_by, optional, part_by, parts_from, member_part_by, member_parts_from}
+use Rattle.sr_syntax.specs.Grammar.{tree}
 use Rattle.sr_grammar.specs.Continuing.{looseness, Ends}
 use Rattle.sr_grammar.proofs.Steps.{inp, done, ending}
 use Rattle.sr_grammar.proofs.Gets.{Gets, gets_is, gets_then, gets_trans, gets_whole}
 use Rattle.sr_grammar.proofs.Completing.{Stands, expect_goes}
+use Rattle.sr_grammar.specs.Reading.{end_after}
+use Rattle.sr_grammar.proofs.Sorts.{right_bracket_self}
 
 -- ---- what a part is
 
-pub bracket_self : same_sort k.RightBracket k.RightBracket ≡ true
-unfolding same_sort
-bracket_self = refl
-
-pub member_gets : (of : Link) (x : Grown) (u : Lexeme) (r : List Lexeme) (l n : ℕ) → is_word u.content ≡ true
+pub member_gets : (of : Link) (x : Grown) (u : Lexeme) (r : List Lexeme) (l n : ℕ) → is_word u.sort ≡ true
     → Gets (member of x (inp (u ∷ r) l n)) (x.height + 1) (done (ending (node.Member of x.tree (text_of u.content)) (from_of x) u.to x.height) (inp r u.to n))
-unfolding member property_name sees_word text next
+unfolding member property_name sees_word sort text next
 member_gets of x u r l n w =
     gets_is (complete (node.Member of x.tree (text_of u.content)) (from_of x) x.height (inp r u.to n)) (rw w refl) (gets_whole (node.Member of x.tree (text_of u.content)) (from_of x) x.height r u.to n)
 
@@ -39,7 +38,7 @@ index_gets d of x y vs u r l n h c =
     let f : Grown → Parser Grown = λ y. expect k.RightBracket >>= (λ v. complete (node.Index of x.tree y.tree) (from_of x) (max x.height y.height)) in
     gets_trans y.height (max x.height y.height + 1) (omega arith) (gets_then h f)
     (gets_is (complete (node.Index of x.tree y.tree) (from_of x) (max x.height y.height) (inp r u.to n))
-    (expect_goes k.RightBracket u r (end_after l vs) n c bracket_self (λ v. complete (node.Index of x.tree y.tree) (from_of x) (max x.height y.height)))
+    (expect_goes k.RightBracket u r (end_after l vs) n c right_bracket_self (λ v. complete (node.Index of x.tree y.tree) (from_of x) (max x.height y.height)))
     (gets_whole (node.Index of x.tree y.tree) (from_of x) (max x.height y.height) r u.to n))
 
 pub call_gets : (d : ℕ) (of : Link) (x : Grown) (xs : Elements) (ts r : List Lexeme) (l n last : ℕ)
@@ -51,12 +50,12 @@ call_gets d of x xs ts r l n last h =
     (gets_whole (node.Call of x.tree xs.items) (from_of x) (max x.height xs.tall) r last n)
 
 -- a name behind `?.`
-named_optional : (d : ℕ) (x : Grown) (s : Sort) (i : Input) → is_bracket s ≡ false → optional_by (tree d) x s i ≡ member link.Optional x i
+named_optional : (d : ℕ) (x : Grown) (s : Sort) (i : Input) → is_word s ≡ true → optional_by (tree d) x s i ≡ member link.Optional x i
 named_optional d x k.LeftBracket i e = cc
 named_optional d x k.LeftParenthesis i e = cc
 named_optional d x _ i e = refl
 
-pub optional_name : (d : ℕ) (x : Grown) (u : Lexeme) (ts : List Lexeme) (l n : ℕ) → is_bracket u.sort ≡ false
+pub optional_name : (d : ℕ) (x : Grown) (u : Lexeme) (ts : List Lexeme) (l n : ℕ) → is_word u.sort ≡ true
     → optional (tree d) x (inp (u ∷ ts) l n) ≡ member link.Optional x (inp (u ∷ ts) l n)
 unfolding optional sort
 optional_name d x u ts l n e = named_optional d x u.sort (inp (u ∷ ts) l n) e

@@ -1,5 +1,5 @@
 -- What the parts behind an expression read, and where they fail.
-use Rattle.std.proofs.Common.{◌≡◌, ℕ, ◌+◌, ◌≤◌, ◌<◌, max, Bool, true, false, List, [], ◌∷◌, ◌++◌, length, refl, sym, ap, ◌∙◌, subst, append_assoc, append-nil, length-append, arith}
+use Rattle.std.proofs.Common.{◌≡◌, ℕ, ◌+◌, ◌≤◌, ◌<◌, max, true, false, List, [], ◌∷◌, ◌++◌, length, refl, sym, ap, ◌∙◌, subst, append_assoc, append-nil, length-append, arith}
 use Rattle.sr_ast.specs.declared.operators.Link.{Link}
 use Rattle.sr_ast.specs.declared.tree.Node.{Node}
 use Rattle.sr_ast.specs.declared.tree.Node.TheVariants as node
@@ -9,22 +9,21 @@ use Rattle.sr_syntax.specs.declared.sorts.Content.TheVariants.{Name}
 use Rattle.sr_syntax.specs.declared.sorts.Lexeme.{Lexeme}
 use Rattle.sr_syntax.specs.declared.grown.Grown.{Grown}
 use Rattle.sr_syntax.specs.declared.grown.Elements.{Elements}
-use Rattle.sr_syntax.specs.Sorts.{same_sort}
-use Rattle.sr_syntax.specs.Input.{Parser, ◌>>◌, take_token, sort_at, is_word, text_of, max_depth}
-use Rattle.sr_syntax.specs.Grammar.{member, index, call, tree, from_of}
-use Rattle.sr_grammar.specs.Derivations.{Symbol, Derives, Arguments, Expression, Chain, is_bracket, end_after, whole}
+use Rattle.sr_syntax.specs.Input.{Parser, ◌>>◌, take_token, is_word, text_of, max_depth}
+use Rattle.sr_syntax.specs.Operators.{member, from_of}
+use Rattle.sr_syntax.specs.Expressions.{index, call}
+use Rattle.sr_syntax.specs.Grammar.{tree}
+use Rattle.sr_grammar.specs.Derivations.{Symbol, Derives, Arguments, Expression, whole}
 use Rattle.sr_grammar.specs.Derivations as g
-use Rattle.sr_grammar.proofs.Steps.{Fact, Need, Any, Parses, Both, both, Either, first, second, Never, Expected, expected, Here, here, map, map_given, given, then_any, expecting, ending, end_append}
+use Rattle.sr_grammar.proofs.Steps.{Fact, Any, Parses, Both, both, Either, first, second, Never, Expected, expected, Here, here, map, then_any, expecting, ending, end_append}
 use Rattle.sr_grammar.proofs.Depths.{lift, lift_arguments}
 use Rattle.sr_grammar.proofs.Facts.{Derived, derived, Closed, closed, closing, Start, start, token}
 use Rattle.sr_grammar.proofs.Lists.{Nested, expressions}
 use Rattle.sr_grammar.proofs.Beginnings.{Begun, Of, carry, begun_whole, begun_of}
 use Rattle.sr_grammar.proofs.Elements.{Argued, argued, NotArgued, not_argued, arguing}
 use Rattle.sr_grammar.proofs.Peeks.{Sorted, Token, one_token, taking, Named, named_by, naming}
-
-other_bracket : same_sort k.End k.RightBracket ≡ false
-unfolding same_sort
-other_bracket = refl
+use Rattle.sr_grammar.specs.Reading.{end_after}
+use Rattle.sr_grammar.proofs.Sorts.{end_no_right_bracket}
 
 -- ---- what a part adds to what stands before it
 
@@ -83,38 +82,31 @@ extended {P} {p} {of} {d} {l} {n} {tall} {from} {us} {ts} {node} {x} some fits i
 
 -- ---- by a name
 
--- Where no bracket may stand for the name, as behind `?.`, none does.
-abbrev pub Unbracketed : Bool → Need
-Unbracketed strict ts = strict ≡ true → is_bracket (sort_at ts) ≡ false
-
 -- behind what stands before it a name makes a symbol
-pub record Members (strict : Bool) (P : Before) (p : Symbol) (l : Link) (of : Grown) : Type 0 where
-  pub makes : {e : ℕ} {us : List Lexeme} → P e us of → (u : Lexeme) → is_word u.content ≡ true → (strict ≡ true → is_bracket u.sort ≡ false)
+pub record Members (P : Before) (p : Symbol) (l : Link) (of : Grown) : Type 0 where
+  pub makes : {e : ℕ} {us : List Lexeme} → P e us of → (u : Lexeme) → is_word u.sort ≡ true
       → Derives e p (us ++ u ∷ []) (whole (node.Member l of.tree (text_of u.content)) (from_of of) (us ++ u ∷ []) of.height)
 
 abbrev a_word : Lexeme
-a_word = record { sort = k.Identifier; content = Name []; from = 0; to = 0; line_before = false }
+a_word = record { sort = k.Identifier; content = Name []; from = 0; to = 0; line_before = false; ahead = k.End }
 
-member_fact : {P : Before} {p : Symbol} {of : Grown} {d m n : ℕ} {us ts : List Lexeme} {x : Grown} (strict : Bool) (l : Link) → Members strict P p l of → Unbracketed strict (us ++ ts)
+member_fact : {P : Before} {p : Symbol} {of : Grown} {d m n : ℕ} {us ts : List Lexeme} {x : Grown} (l : Link) → Members P p l of
     → Closed Named (λ called. node.Member l of.tree called) (λ called. from_of of) (λ called. of.height) m n us ts x → Extended P p of d m n us ts x
-member_fact {of = of} strict l makes free (closed called (named_by u w e) fits is) =
-    extended (omega arith) fits (is ∙ ap (λ called. ending (node.Member l of.tree called) (from_of of) u.to of.height) e) (λ vs h. makes.makes h u w free)
+member_fact {of = of} l makes (closed called (named_by u w e) fits is) =
+    extended (omega arith) fits (is ∙ ap (λ called. ending (node.Member l of.tree called) (from_of of) u.to of.height) e) (λ vs h. makes.makes h u w)
 
-member_fault : {P : Before} {p : Symbol} {of : Grown} {d m n : ℕ} {us ts : List Lexeme} (strict : Bool) (l : Link) → Members strict P p l of → Here m n us ts → Unextended P p of d m n us ts
-member_fault {p = p} {of = of} {d = d} strict l makes here = unextended (λ vs h. record {
+member_fault : {P : Before} {p : Symbol} {of : Grown} {d m n : ℕ} {us ts : List Lexeme} (l : Link) → Members P p l of → Here m n us ts → Unextended P p of d m n us ts
+member_fault {p = p} {of = of} {d = d} l makes here = unextended (λ vs h. record {
   depth = d;
   more = a_word ∷ [];
   made = _;
-  has = subst (λ zs. Derives d p (zs ++ a_word ∷ []) (whole (node.Member l of.tree []) (from_of of) (vs ++ a_word ∷ []) of.height)) (sym (append-nil vs)) (makes.makes h a_word refl (λ e. refl));
+  has = subst (λ zs. Derives d p (zs ++ a_word ∷ []) (whole (node.Member l of.tree []) (from_of of) (vs ++ a_word ∷ []) of.height)) (sym (append-nil vs)) (makes.makes h a_word refl);
 })
 
-pub members_strictly : {P : Before} {p : Symbol} {d : ℕ} (strict : Bool) (l : Link) (of : Grown) → Members strict P p l of → Parses (λ e. member l of) d (Unbracketed strict) (Extended P p of d) (Unextended P p of d)
+pub members : {P : Before} {p : Symbol} {d : ℕ} (l : Link) (of : Grown) → Members P p l of → Parses (λ e. member l of) d Any (Extended P p of d) (Unextended P p of d)
 unfolding member
-members_strictly strict l of makes = map_given (λ m n us ts x free r. member_fact strict l makes free r) (λ m n us ts free r. member_fault strict l makes r)
-    (given (λ ts free. tt) (closing naming (λ called. node.Member l of.tree called) (λ called. from_of of) (λ called. of.height)))
-
-pub members : {P : Before} {p : Symbol} {d : ℕ} (l : Link) (of : Grown) → Members false P p l of → Parses (λ e. member l of) d Any (Extended P p of d) (Unextended P p of d)
-members l of makes = given (λ ts q e. cc) (members_strictly false l of makes)
+members l of makes = map (λ m n us ts x r. member_fact l makes r) (λ m n us ts r. member_fault l makes r)
+    (closing naming (λ called. node.Member l of.tree called) (λ called. from_of of) (λ called. of.height))
 
 -- ---- by an expression in brackets
 
@@ -178,7 +170,7 @@ module _ (d : ℕ) (nest : Nested d) where
   pub indexes : {P : Before} {p : Symbol} (l : Link) (of : Grown) → Lifts P of → Indexes P p l of → Parses (λ e. index (tree e) l of) d Any (Extended P p of d) (Unextended P p of d)
   unfolding index
   indexes l of lifts makes = map (λ m n us ts x r. index_fact l makes r) (λ m n us ts r. index_fault l lifts makes r)
-      (then_any (expressions true d nest) (λ y. closing (expecting k.RightBracket other_bracket) (λ u. node.Index l of.tree y.tree) (λ u. from_of of) (λ u. max of.height y.height)))
+      (then_any (expressions true d nest) (λ y. closing (expecting k.RightBracket end_no_right_bracket) (λ u. node.Index l of.tree y.tree) (λ u. from_of of) (λ u. max of.height y.height)))
 
   pub calls : {P : Before} {p : Symbol} (l : Link) (of : Grown) → Lifts P of → Calls P p l of → Parses (λ e. call (tree e) l of) d Any (Extended P p of d) (Unextended P p of d)
   unfolding call

@@ -4,13 +4,17 @@ use Rattle.sr_syntax.specs.declared.sorts.Sort.{Sort}
 use Rattle.sr_syntax.specs.declared.sorts.Sort.TheVariants as k
 use Rattle.sr_syntax.specs.declared.sorts.Lexeme.{Lexeme}
 use Rattle.sr_syntax.specs.declared.refusal.Refusal.TheVariants.{Memory, Syntax}
-use Rattle.sr_syntax.specs.Input.{Input, Parser, ◌>>=◌, text, text_of, content_at, is_word, sees_word, sort, sort_at, place, place_at, next}
-use Rattle.sr_syntax.specs.Grammar.{property_name}
-use Rattle.sr_grammar.proofs.Steps.{inp, Fact, Fault, Need, Any, Parses, Read, Failed, Both, both, Either, first, second, Never, Here, here, Looked, looked, Taken, taken, map, map_given, given, bind, look, take, Shallow, Some_left, sort_shallow, content_alike, done, fault_at, along, not_both, other_refusal, refusal_is}
+use Rattle.sr_syntax.specs.Input.{Input, Parser, ◌>>=◌, text, text_of, content_at, is_word, sees_word, sort, sort_at, place, place_at, next, number, number_of}
+use Rattle.sr_syntax.specs.Operators.{property_name}
+use Rattle.sr_grammar.proofs.Steps.{inp, Fact, Fault, Need, Any, Parses, Read, Failed, Both, both, Either, first, second, Never, Here, failed_here, Looked, looked, Taken, taken, map, map_given, given, bind, look, take, Shallow, Some_left, sort_shallow, sort_alike, content_alike, done, along, not_both, other_refusal, refusal_is}
 
 pub text_shallow : Shallow text
 unfolding text
 text_shallow l n ts rs h = ap text_of (content_alike ts rs h)
+
+pub number_shallow : Shallow number
+unfolding number
+number_shallow l n ts rs h = ap number_of (content_alike ts rs h)
 
 -- The next token is of this kind.
 abbrev pub Sorted : Sort → Need
@@ -65,18 +69,18 @@ taking_text s other = map_given (λ l n us ts x m r. fact m r) (λ l n us ts m r
 -- ---- the name of a property
 
 pub data Named (l n : ℕ) : List Lexeme → List Lexeme → List ℕ → Type 0 where
-  named_by : {ts : List Lexeme} {x : List ℕ} (t : Lexeme) → is_word t.content ≡ true → x ≡ text_of t.content → Named l n (t ∷ []) ts x
+  named_by : {ts : List Lexeme} {x : List ℕ} (t : Lexeme) → is_word t.sort ≡ true → x ≡ text_of t.content → Named l n (t ∷ []) ts x
 
-name_is : (ts : List Lexeme) (l n : ℕ) (b : Bool) → is_word (content_at ts) ≡ b
+name_is : (ts : List Lexeme) (l n : ℕ) (b : Bool) → is_word (sort_at ts) ≡ b
     → property_name (inp ts l n) ≡ (if b then done (text_of (content_at ts)) (next (inp ts l n)) else Err (Syntax (place_at n ts)))
-unfolding property_name sees_word text place
+unfolding property_name sees_word sort text place
 name_is ts l n b is = ap (λ c. if c then done (text_of (content_at ts)) (next (inp ts l n)) else Err (Syntax (place_at n ts))) is
 
 pub naming : {d : ℕ} → Parses (λ e. property_name) d Any Named Here
 unfolding next
-naming {d} = record { reads = λ l n all x j q h. reading l n all (is_word (content_at all)) refl x j h; fails = λ l n all place q h. failing l n all place (is_word (content_at all)) refl h; safe = λ l n all q h. safe l n all (is_word (content_at all)) refl h }
+naming {d} = record { reads = λ l n all x j q h. reading l n all (is_word (sort_at all)) refl x j h; fails = λ l n all place q h. failing l n all place (is_word (sort_at all)) refl h; safe = λ l n all q h. safe l n all (is_word (sort_at all)) refl h }
   where
-    reading : (l n : ℕ) (all : List Lexeme) (b : Bool) → is_word (content_at all) ≡ b → (x : List ℕ) (j : Input) → property_name (inp all l n) ≡ done x j → Read (λ e. property_name) d Named l n all x j
+    reading : (l n : ℕ) (all : List Lexeme) (b : Bool) → is_word (sort_at all) ≡ b → (x : List ℕ) (j : Input) → property_name (inp all l n) ≡ done x j → Read (λ e. property_name) d Named l n all x j
     reading l n [] true is x j h = absurd (not_both is refl)
     reading l n (t ∷ ts) true is x j h =
         let got : done (text_of t.content) (inp ts t.to n) ≡ done x j = sym (name_is (t ∷ ts) l n true is) ∙ h in
@@ -90,19 +94,11 @@ naming {d} = record { reads = λ l n all x j q h. reading l n all (is_word (cont
         }
     reading l n all false is x j h = let got : Err (Syntax (place_at n all)) ≡ done x j = sym (name_is all l n false is) ∙ h in cc
 
-    safe : (l n : ℕ) (all : List Lexeme) (b : Bool) → is_word (content_at all) ≡ b → property_name (inp all l n) ≡ Err Memory → ⊥
+    safe : (l n : ℕ) (all : List Lexeme) (b : Bool) → is_word (sort_at all) ≡ b → property_name (inp all l n) ≡ Err Memory → ⊥
     safe l n all true is h = let got : done (text_of (content_at all)) (next (inp all l n)) ≡ Err Memory = sym (name_is all l n true is) ∙ h in cc
     safe l n all false is h = other_refusal (refusal_is {A = List ℕ} (Syntax (place_at n all)) Memory (sym (name_is all l n false is) ∙ h))
 
-    failing : (l n : ℕ) (all : List Lexeme) (place : ℕ) (b : Bool) → is_word (content_at all) ≡ b → property_name (inp all l n) ≡ Err (Syntax place) → Failed (λ e. property_name) d Here l n all place
+    failing : (l n : ℕ) (all : List Lexeme) (place : ℕ) (b : Bool) → is_word (sort_at all) ≡ b → property_name (inp all l n) ≡ Err (Syntax place) → Failed (λ e. property_name) d Here l n all place
     failing l n all place true is h = let got : done (text_of (content_at all)) (next (inp all l n)) ≡ Err (Syntax place) = sym (name_is all l n true is) ∙ h in cc
     failing l n all place false is h =
-        let got : fault_at {A = List ℕ} (place_at n all) ≡ fault_at place = sym (name_is all l n false is) ∙ h in
-        record {
-          us = [];
-          ts = all;
-          split = refl;
-          at = let e : place_at n all ≡ place = cc in sym e;
-          fault = here;
-          again = λ e rs more same. name_is rs l n false (ap is_word (content_alike all rs same) ∙ is);
-        }
+        failed_here all place (sym (name_is all l n false is) ∙ h) (λ e rs more same. name_is rs l n false (ap is_word (sort_alike all rs same) ∙ is))

@@ -1,5 +1,5 @@
 -- What the rules of operators between two operands read, and where they fail.
-use Rattle.std.proofs.Common.{◌≡◌, ℕ, zero, suc, ◌+◌, ◌≤◌, ◌<◌, max, Bool, true, false, ◌&&◌, ◌==◌, List, [], ◌∷◌, ◌++◌, length, Ok, Err, refl, sym, ap, ◌∙◌, subst, append_assoc, append-nil, arith, ◌⊎◌, inl, inr, if◌then◌else◌}
+use Rattle.std.proofs.Common.{◌≡◌, ℕ, zero, suc, ◌+◌, ◌≤◌, ◌<◌, max, Bool, true, false, ◌==◌, List, [], ◌∷◌, ◌++◌, length, Ok, Err, refl, sym, ap, ◌∙◌, subst, append_assoc, append-nil, arith, ◌⊎◌, inl, inr, if◌then◌else◌}
 use Rattle.std.proofs.lemmas.Bool.{eqb-true}
 use Rattle.std.proofs.Math.Dec.{eqb-zero-suc}
 use Rattle.sr_syntax.specs.declared.sorts.Sort.TheVariants as k
@@ -8,15 +8,18 @@ use Rattle.sr_syntax.specs.declared.sorts.Lexeme.{Lexeme}
 use Rattle.sr_syntax.specs.declared.grown.Grown.{Grown}
 use Rattle.sr_syntax.specs.Sorts.{same_sort}
 use Rattle.sr_syntax.specs.Input.{Input, Outcome, Parser, ◌>>=◌, and_then, pure, sort, sort_at, left, max_depth, next}
-use Rattle.sr_syntax.specs.Grammar.{row, admits, bit_or_row, and_row, or_row, coalesce_row, is_in, from_of, joined, joined_node, row_from, row_of, binary_, either, short_circuit, tree}
-use Rattle.sr_grammar.specs.Derivations.{Symbol, Derives, Row, Short, Coalesce, CoalesceHead, Power, end_after, whole, joining}
+use Rattle.sr_syntax.specs.Operators.{row, admits, bit_or_row, and_row, or_row, coalesce_row, is_in, from_of, joined, joined_node, row_from, row_of}
+use Rattle.sr_syntax.specs.Expressions.{binary_, either, short_circuit}
+use Rattle.sr_syntax.specs.Grammar.{tree}
+use Rattle.sr_grammar.specs.Derivations.{Symbol, Derives, Row, Short, Coalesce, CoalesceHead, Power, joining}
 use Rattle.sr_grammar.specs.Derivations as g
 use Rattle.sr_grammar.specs.Faults.{Begins}
-use Rattle.sr_grammar.proofs.Steps.{inp, Fact, Fault, Any, Parses, Both, both, Either, first, second, Never, Pure, nothing, Looked, looked, Taken, taken, Chosen, yes, no, ChosenFault, yes_fault, no_fault, Runs, stop, go, Breaks, break, later, map, then_any, bind, look, take, Some_left, sort_shallow, purely, choose, choose_any, turns, finish, pred, not_both, done, ending, end_append}
+use Rattle.sr_grammar.proofs.Steps.{inp, Fact, Fault, Any, Parses, Both, both, Either, first, second, Never, Pure, nothing, Looked, looked, Taken, taken, Chosen, yes, no, ChosenFault, yes_fault, no_fault, Runs, stop, go, Breaks, break, later, map, then_any, bind, look, take, Some_left, sort_shallow, purely, choose, choose_any, turns, finish, pred, not_both, done, ending, end_append, and_is}
 use Rattle.sr_grammar.proofs.Depths.{lift}
 use Rattle.sr_grammar.proofs.Facts.{Derived, derived, Opened, opened, Mapped, mapped, mapping, Closed, closed, closing, bare, known_as, finished, end_behind, Start, start, Fill, begin_as, begin_behind, filled}
 use Rattle.sr_grammar.proofs.Lists.{Nested, no_left, no_right, same_left, same_right, assoc}
 use Rattle.sr_grammar.proofs.Sides.{unit_of, unit_shallow}
+use Rattle.sr_grammar.specs.Reading.{end_after}
 
 -- ---- one row, behind a first operand
 
@@ -28,17 +31,13 @@ pub data Joined (has : Bool) (d : ℕ) (low : Symbol) (level : ℕ) (x : Grown) 
 pub data NotJoined (has : Bool) (low : Symbol) (level l n : ℕ) : List Lexeme → List Lexeme → Type 0 where
   not_joined : {us ts : List Lexeme} (t : Lexeme) → row t.sort ≡ level → admits has t.sort ≡ true → Begins low us → NotJoined has low level l n (t ∷ us) ts
 
-both_true : (a b : Bool) → (a && b) ≡ true → (a ≡ true) × (b ≡ true)
-both_true true b h = (refl, h)
-both_true false b h = cc
-
 pub level_of : (has : Bool) (level : ℕ) (s : Sort) → is_in has level s ≡ true → row s ≡ level
 unfolding is_in
-level_of has level s h = eqb-true (row s) level (both_true (row s == level) (admits has s) h).0
+level_of has level s h = eqb-true (row s) level (and_is (row s == level) (admits has s) h).0
 
 pub admitted : (has : Bool) (level : ℕ) (s : Sort) → is_in has level s ≡ true → admits has s ≡ true
 unfolding is_in
-admitted has level s h = (both_true (row s == level) (admits has s) h).1
+admitted has level s h = (and_is (row s == level) (admits has s) h).1
 
 abbrev row_step : Bool → (ℕ → Parser Grown) → ℕ → ℕ → Grown → Parser (Grown ⊎ Grown)
 row_step has operand level e x = (λ i. Ok (sort i, i)) >>= (λ s.

@@ -5,7 +5,9 @@ use Rattle.sr_syntax.specs.declared.sorts.Lexeme.{Lexeme}
 use Rattle.sr_syntax.specs.declared.grown.Grown.{Grown}
 use Rattle.sr_syntax.specs.Sorts.{same_sort}
 use Rattle.sr_syntax.specs.Input.{sort, max_depth}
-use Rattle.sr_syntax.specs.Grammar.{left_side, tree, is_bare_new}
+use Rattle.sr_syntax.specs.Operators.{is_bare_new}
+use Rattle.sr_syntax.specs.Expressions.{left_side}
+use Rattle.sr_syntax.specs.Grammar.{tree}
 use Rattle.sr_grammar.specs.Derivations.{Derives, Chain, New, Primary, Left}
 use Rattle.sr_grammar.specs.Derivations as g
 use Rattle.sr_grammar.proofs.Steps.{Fact, Any, Parses, Both, both, Either, first, second, Never, Pure, nothing, Looked, looked, Chosen, yes, no, ChosenFault, yes_fault, no_fault, map, then_any, look, sort_shallow, purely, choose_any}

@@ -9,10 +9,13 @@ use Rattle.sr_syntax.specs.declared.grown.Grown.{Grown}
 use Rattle.sr_syntax.specs.declared.grown.Grove.{Grove}
 use Rattle.sr_syntax.specs.Sorts.{same_sort}
 use Rattle.sr_syntax.specs.Input.{sort_at, place_at}
-use Rattle.sr_syntax.specs.Grammar.{prefix, update_before}
-use Rattle.sr_grammar.specs.Derivations.{Symbol, Derives, Lists, end_after, start_of}
+use Rattle.sr_syntax.specs.Operators.{prefix, update_before}
+use Rattle.sr_ast.specs.declared.binding.Parameters.{Parameters}
+use Rattle.sr_grammar.specs.Names.{ArrowHead, one_name, in_parentheses}
+use Rattle.sr_grammar.specs.Derivations.{Symbol, Derives, Lists, start_of}
 use Rattle.sr_grammar.specs.Derivations as g
 use Rattle.sr_grammar.proofs.Steps.{not_both, same_sort_true}
+use Rattle.sr_grammar.specs.Reading.{end_after}
 
 -- the tokens that expressions begin with
 abbrev pub starting : Sort → Bool
@@ -27,6 +30,8 @@ starting k.True = true
 starting k.This = true
 starting k.New = true
 starting k.LeftBracket = true
+starting k.LeftBrace = true
+starting k.Function = true
 starting k.Delete = true
 starting k.Typeof = true
 starting k.Void = true
@@ -63,12 +68,18 @@ starting_update _ op h = cc
 behind : (us vs r : List Lexeme) (t : Lexeme) → Starting (us ++ t ∷ (vs ++ r)) → Starting ((us ++ t ∷ vs) ++ r)
 behind us vs r t h = subst Starting (sym (append_assoc us (t ∷ vs) r)) h
 
+pub starts_head : {us : List Lexeme} {ps : Parameters} → ArrowHead us ps → (r : List Lexeme) → Starting (us ++ r)
+starts_head (one_name t c a) r = starts_as k.Identifier t.sort c refl
+starts_head (in_parentheses t c a p) r = starts_as k.LeftParenthesis t.sort c refl
+
 mutual
   pub starts : {d : ℕ} {s : Symbol} {us : List Lexeme} {x : Grown} → Derives d s us x → (r : List Lexeme) → Starting (us ++ r)
   starts (g.single h) = λ r. starts h r
   starts (g.sequence {us} {vs} h t c i) = λ r. behind us vs r t (starts_list h (t ∷ (vs ++ r)))
-  starts (g.unassigned h) = λ r. starts h r
-  starts (g.assigned {us} {vs} h is t c i) = λ r. behind us vs r t (starts h (t ∷ (vs ++ r)))
+  starts (g.unassigned h a) = λ r. starts h r
+  starts (g.assigned {us} {vs} h a is t c i) = λ r. behind us vs r t (starts h (t ∷ (vs ++ r)))
+  starts (g.arrow {us} {vs} h t c l i) = λ r. behind us vs r t (starts_head h (t ∷ (vs ++ r)))
+  starts (g.expression_arrow {us} {vs} h t c l o i) = λ r. behind us vs r t (starts_head h (t ∷ (vs ++ r)))
   starts (g.unchosen h) = λ r. starts h r
   starts (g.chosen {us} {vs} {ws} h t c i u e j) = λ r. behind us (vs ++ u ∷ ws) r t (starts h (t ∷ ((vs ++ u ∷ ws) ++ r)))
   starts (g.logical h) = λ r. starts h r
@@ -93,7 +104,7 @@ mutual
   starts (g.named {us} h t c u e) = λ r. behind us (u ∷ []) r t (starts h (t ∷ u ∷ r))
   starts (g.indexed {us} {vs} h t c i u e) = λ r. behind us (vs ++ u ∷ []) r t (starts h (t ∷ ((vs ++ u ∷ []) ++ r)))
   starts (g.called {us} {vs} h t c a) = λ r. behind us vs r t (starts h (t ∷ (vs ++ r)))
-  starts (g.optional_named {us} h t c u e o) = λ r. behind us (u ∷ []) r t (starts h (t ∷ u ∷ r))
+  starts (g.optional_named {us} h t c u e) = λ r. behind us (u ∷ []) r t (starts h (t ∷ u ∷ r))
   starts (g.optional_indexed {us} {vs} h t c w e i u q) = λ r. behind us (w ∷ (vs ++ u ∷ [])) r t (starts h (t ∷ w ∷ ((vs ++ u ∷ []) ++ r)))
   starts (g.optional_called {us} {vs} h t c w e a) = λ r. behind us (w ∷ vs) r t (starts h (t ∷ w ∷ (vs ++ r)))
   starts (g.new_called {t} c h u e a) = λ r. starts_as k.New t.sort c refl
@@ -114,6 +125,9 @@ mutual
   starts (g.plain_template {t} c) = λ r. starts_as k.TemplateWhole t.sort c refl
   starts (g.template {t} c w h u e) = λ r. starts_as k.TemplateHead t.sort c refl
   starts (g.array {t} c a) = λ r. starts_as k.LeftBracket t.sort c refl
+  starts (g.object {t} c a) = λ r. starts_as k.LeftBrace t.sort c refl
+  starts (g.function_alone {t} c a) = λ r. starts_as k.Function t.sort c refl
+  starts (g.function_named {t} c e a) = λ r. starts_as k.Function t.sort c refl
   starts (g.parenthesized {t} c h u e) = λ r. starts_as k.LeftParenthesis t.sort c refl
 
   starts_list : {d : ℕ} {b : Bool} {us : List Lexeme} {from : ℕ} {xs : Grove} → Lists b d us from xs → (r : List Lexeme) → Starting (us ++ r)

@@ -1,5 +1,5 @@
 -- What the steps of a parser read, where they fail, and that they look at no more than one token behind what they read.
-use Rattle.std.proofs.Common.{◌≡◌, ℕ, zero, suc, ◌+◌, ◌≤◌, Bool, true, false, List, [], ◌∷◌, ◌++◌, length, Option, None, Some, Result, Ok, Err, refl, sym, ap, ◌∙◌, subst, append_assoc, length-append, arith, rules, ◌⊎◌, inl, inr, if◌then◌else◌, nat_lt, ◌<◌}
+use Rattle.std.proofs.Common.{◌≡◌, ℕ, zero, suc, ◌+◌, ◌≤◌, Bool, true, false, List, [], ◌∷◌, ◌++◌, length, Result, Ok, Err, refl, sym, ap, ◌∙◌, subst, append_assoc, length-append, arith, rules, ◌⊎◌, inl, inr, if◌then◌else◌, nat_lt, ◌<◌, ◌&&◌, Some}
 use Rattle.sr_syntax.specs.declared.sorts.Lexeme.{Lexeme}
 use Rattle.sr_syntax.specs.declared.refusal.Refusal.{Refusal}
 use Rattle.sr_syntax.specs.declared.refusal.Refusal.TheVariants.{Memory, Syntax, TooDeep}
@@ -13,17 +13,12 @@ use Rattle.sr_syntax.specs.declared.grown.Grown.{Grown}
 use Rattle.sr_ast.specs.declared.tree.Tree.{roll-Tree}
 use Rattle.sr_ast.specs.declared.tree.Node.{Node}
 use Rattle.std.proofs.lemmas.Bool.{ltb-true}
-use Rattle.sr_grammar.specs.Derivations.{end_after}
+use Rattle.sr_grammar.specs.Reading.{end_after, head}
 
 -- ---- inputs
 
 abbrev pub inp : List Lexeme → ℕ → ℕ → Input
 inp rest last size = record { rest = rest; last = last; size = size }
-
--- the first token, or the end
-abbrev pub head : List Lexeme → Option Lexeme
-head [] = None
-head (t ∷ ts) = Some t
 
 pub head_append : (us ts rs : List Lexeme) → head rs ≡ head ts → head (us ++ rs) ≡ head (us ++ ts)
 head_append [] ts rs h = h
@@ -126,6 +121,23 @@ map_given {Q} f g p = record {
 pub given : {A : Type 0} {P : ℕ → Parser A} {d : ℕ} {Q M : Need} {R : Fact A} {B : Fault}
     → ((ts : List Lexeme) → M ts → Q ts) → Parses P d Q R B → Parses P d M R B
 given f p = record { reads = λ l n all x j q h. p.reads l n all x j (f all q) h; fails = λ l n all place q h. p.fails l n all place (f all q) h; safe = λ l n all q h. p.safe l n all (f all q) h }
+
+-- with what is read again before whatever begins alike
+pub map_again : {A : Type 0} {P : ℕ → Parser A} {d : ℕ} {Q : Need} {R S : Fact A} {B : Fault}
+    → ((l n : ℕ) (us ts : List Lexeme) (x : A) → R l n us ts x → ((rs : List Lexeme) → head rs ≡ head ts → P d (inp (us ++ rs) l n) ≡ Ok (x, inp rs (end_after l us) n)) → S l n us ts x)
+    → Parses P d Q R B → Parses P d Q S B
+map_again {d = d} f p = record {
+  reads = λ l n all x j q h. let r = p.reads l n all x j q h in record {
+    us = r.us;
+    ts = r.ts;
+    split = r.split;
+    left = r.left;
+    fact = f l n r.us r.ts x r.fact (λ rs same. r.again d rs (omega arith) same);
+    again = r.again;
+  };
+  fails = p.fails;
+  safe = p.safe;
+}
 
 -- ---- one after the other
 
@@ -260,6 +272,17 @@ pub data Nowhere {A : Type 0} (l n : ℕ) : List Lexeme → List Lexeme → A �
 pub data Here (l n : ℕ) : List Lexeme → List Lexeme → Type 0 where
   here : {ts : List Lexeme} → Here l n [] ts
 
+pub failed_here : {A : Type 0} {P : ℕ → Parser A} {d l n : ℕ} (all : List Lexeme) (place : ℕ) → fault_at {A = A} (place_at n all) ≡ fault_at place
+    → ((e : ℕ) (rs : List Lexeme) → d ≤ e → head rs ≡ head all → P e (inp rs l n) ≡ fault_at (place_at n rs)) → Failed P d Here l n all place
+failed_here {n = n} all place is again = record {
+  us = [];
+  ts = all;
+  split = refl;
+  at = let e : place_at n all ≡ place = cc in sym e;
+  fault = here;
+  again = again;
+}
+
 pub place_alike : (n : ℕ) (ts rs : List Lexeme) → head rs ≡ head ts → place_at n rs ≡ place_at n ts
 place_alike n [] [] h = refl
 place_alike n [] (r ∷ rs) h = cc
@@ -297,14 +320,7 @@ pub refused : {A : Type 0} {d : ℕ} → Parses {A = A} (λ e. refuse) d Any Now
 unfolding place
 refused = record {
   reads = λ l n all x j q h. cc;
-  fails = λ l n all place q h. record {
-    us = [];
-    ts = all;
-    split = refl;
-    at = let e : place_at n all ≡ place = cc in sym e;
-    fault = here;
-    again = λ e rs more same. refl;
-  };
+  fails = λ l n all place q h. failed_here all place h (λ e rs more same. refl);
   safe = λ l n all q h. other_refusal (refusal_is (Syntax (place_at n all)) Memory h);
 }
 
@@ -341,6 +357,13 @@ same_sort_true a b h = same_true the_type (search rules) a b h
 
 pub not_both : {b : Bool} → b ≡ true → b ≡ false → ⊥
 not_both h k = cc
+
+pub and_is : (a b : Bool) → (a && b) ≡ true → (a ≡ true) × (b ≡ true)
+and_is true b h = (refl, h)
+and_is false b h = cc
+
+pub some_is : {A : Type 0} {a b : A} (P : A → Type 0) → Some a ≡ Some b → P a → P b
+some_is {A} {a} {b} P h p = let e : a ≡ b = cc in subst P e p
 
 pub sort_shallow : Shallow sort
 unfolding sort
@@ -389,10 +412,6 @@ by_first {A} {X} {d} {R} {B} f body parses = map (λ l n us ts x r. fact r) (λ 
         go : (ts : List Lexeme) → Begins_at from ts → s ≡ sort_at ts → At f (f s) from ts
         go [] m e = ap f (sym e)
         go (t ∷ ts) m e = (ap f (sym e), m)
-
-pub end_is : (k : Sort) → same_sort End k ≡ false → (s : Sort) (ts : List Lexeme) → s ≡ sort_at ts → same_sort s k ≡ true → (t : Lexeme) × (us : List Lexeme) × (ts ≡ t ∷ us) × (t.sort ≡ k)
-end_is k other s [] e h = absurd (not_both h (ap (λ c. same_sort c k) e ∙ other))
-end_is k other s (t ∷ us) e h = (t, us, refl, sym e ∙ same_sort_true s k h)
 
 pub data Eaten (k : Sort) (l n : ℕ) : List Lexeme → List Lexeme → Bool → Type 0 where
   ate : {ts : List Lexeme} {b : Bool} (t : Lexeme) → t.sort ≡ k → b ≡ true → Eaten k l n (t ∷ []) ts b
@@ -464,15 +483,7 @@ expecting k {d} other = record { reads = λ l n all x j q h. reading l n all (sa
     failing : (l n : ℕ) (all : List Lexeme) (place : ℕ) (b : Bool) → same_sort (sort_at all) k ≡ b → expect k (inp all l n) ≡ Err (Syntax place) → Failed (λ e. expect k) d Here l n all place
     failing l n all place true is h = let got : done tt (next (inp all l n)) ≡ Err (Syntax place) = sym (expect_is k all l n true is) ∙ h in cc
     failing l n all place false is h =
-        let got : fault_at {A = Unit {0}} (place_at n all) ≡ fault_at place = sym (expect_is k all l n false is) ∙ h in
-        record {
-          us = [];
-          ts = all;
-          split = refl;
-          at = let e : place_at n all ≡ place = cc in sym e;
-          fault = here;
-          again = λ e rs more same. expect_is k rs l n false (ap (λ s. same_sort s k) (sort_alike all rs same) ∙ is);
-        }
+        failed_here all place (sym (expect_is k all l n false is) ∙ h) (λ e rs more same. expect_is k rs l n false (ap (λ s. same_sort s k) (sort_alike all rs same) ∙ is))
 
 -- ---- a whole tree
 
@@ -532,14 +543,6 @@ choose false p q = given (λ ts h. h.1 refl) (map (λ l n us ts x r. no refl r) 
 pub choose_any : {A : Type 0} {P Q : ℕ → Parser A} {d : ℕ} {R S : Fact A} {B F : Fault} (b : Bool) → Parses P d Any R B → Parses Q d Any S F
     → Parses (λ e. if b then P e else Q e) d Any (Chosen b R S) (ChosenFault b B F)
 choose_any b p q = given (λ ts h. (λ e. tt, λ e. tt)) (choose b p q)
-
-pub data Optional {A X : Type 0} (o : Option X) (R : X → Fact A) (S : Fact A) (l n : ℕ) (us ts : List Lexeme) (x : A) : Type 0 where
-  some_of : (op : X) → o ≡ Some op → R op l n us ts x → Optional o R S l n us ts x
-  none_of : o ≡ None → S l n us ts x → Optional o R S l n us ts x
-
-pub data OptionalFault {X : Type 0} (o : Option X) (B : X → Fault) (F : Fault) (l n : ℕ) (us ts : List Lexeme) : Type 0 where
-  some_fault : (op : X) → o ≡ Some op → B op l n us ts → OptionalFault o B F l n us ts
-  none_fault : o ≡ None → F l n us ts → OptionalFault o B F l n us ts
 
 -- ---- turns
 

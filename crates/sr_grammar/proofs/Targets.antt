@@ -6,9 +6,10 @@ use Rattle.sr_ast.specs.declared.tree.Node.TheVariants as node
 use Rattle.sr_syntax.specs.declared.sorts.Sort.TheVariants as k
 use Rattle.sr_syntax.specs.declared.sorts.Lexeme.{Lexeme}
 use Rattle.sr_syntax.specs.declared.grown.Grown.{Grown}
+use Rattle.sr_syntax.specs.Sorts.{same_sort}
 use Rattle.sr_syntax.specs.Input.{max_depth}
-use Rattle.sr_syntax.specs.Grammar.{update_before, is_target, is_bare_new, no_elements}
-use Rattle.sr_grammar.specs.Derivations.{Derives, Assign, Left, Chain, New, Member, Update, whole}
+use Rattle.sr_syntax.specs.Operators.{update_before, is_target, is_bare_new, no_elements}
+use Rattle.sr_grammar.specs.Derivations.{Derives, Assign, Left, Chain, New, Update, whole}
 use Rattle.sr_grammar.specs.Derivations as g
 use Rattle.sr_grammar.proofs.Steps.{Fact, Fault}
 use Rattle.sr_grammar.proofs.Depths.{lift}
@@ -21,7 +22,8 @@ a_name = whole (node.Name []) 0 (token k.Identifier ∷ []) 0
 
 -- a name
 pub some_assign : (b : Bool) → Derives 3 (Assign b) (token k.Identifier ∷ []) a_name
-some_assign b = g.unassigned (g.unchosen (g.logical (rows_of 10 (g.operand (g.unraised (g.no_operator (g.no_step (g.chain (g.one_primary (g.name {d = 1} refl))))))))))
+unfolding same_sort
+some_assign b = g.unassigned (g.unchosen (g.logical (rows_of 10 (g.operand (g.unraised (g.no_operator (g.no_step (g.chain (g.one_primary (g.name {d = 1} refl)))))))))) refl
   where
     rows_of : {d : ℕ} {us : List Lexeme} {x : Grown} (level : ℕ) → Derives d (g.Row b zero) us x → Derives d (g.Row b level) us x
     rows_of zero h = h
@@ -71,10 +73,6 @@ callable (g.new_bare {us} {t} c (g.of_bare h is)) =
 -- a New begins a Chain
 pub chain_of_new : {e : ℕ} {vs : List Lexeme} {x : Grown} → Derives e New vs x → Fill (Chain false) vs
 chain_of_new h = let c = callable h in record { depth = suc c.depth; more = c.more; made = c.made; derives = g.one_new c.derives c.called }
-
--- and a Member
-pub member_of_new : {e : ℕ} {vs : List Lexeme} {x : Grown} → Derives e New vs x → Fill Member vs
-member_of_new h = let c = callable h in record { depth = suc c.depth; more = c.more; made = c.made; derives = g.member_new c.derives c.called }
 
 -- ---- a Left that no optional chain is in
 

@@ -6,8 +6,10 @@ use Rattle.sr_syntax.specs.declared.sorts.Lexeme.{Lexeme}
 use Rattle.sr_syntax.specs.declared.grown.Grown.{Grown}
 use Rattle.sr_syntax.specs.declared.grown.Pieces.{Pieces}
 use Rattle.sr_syntax.specs.Input.{Input, Outcome, Parser, ◌>>=◌, and_then, sort, left, text, text_of, next, refuse}
-use Rattle.sr_syntax.specs.Grammar.{expression, piece_by, pieces_from, pieces, tree, one_piece, with_piece}
-use Rattle.sr_grammar.specs.Derivations.{Derives, Substitutions, Expression, end_after}
+use Rattle.sr_syntax.specs.Operators.{one_piece, with_piece}
+use Rattle.sr_syntax.specs.Expressions.{expression, piece_by, pieces_from, pieces}
+use Rattle.sr_syntax.specs.Grammar.{tree}
+use Rattle.sr_grammar.specs.Derivations.{Derives, Substitutions, Expression}
 use Rattle.sr_grammar.specs.Derivations as g
 use Rattle.sr_grammar.proofs.Steps.{inp, Any, Parses, Both, both, Either, first, second, Here, here, map, then_any, given, refused, turns, finish, pred, done}
 use Rattle.sr_grammar.proofs.Depths.{lift, lift_substitutions}

@@ -1,10 +1,10 @@
--- Where reading an expression fails.
+-- Which tokens begin a symbol of the grammar.
 use Rattle.std.specs.Prelude.{ℕ, List, ◌++◌}
 use Rattle.sr_syntax.specs.declared.sorts.Lexeme.{Lexeme}
 use Rattle.sr_syntax.specs.declared.grown.Grown.{Grown}
 use Rattle.sr_grammar.specs.Derivations.{Symbol, Derives}
 
--- The tokens begin a symbol: they and more are one.
+-- the tokens, with more behind them or with none, are this symbol
 pub record Begins (s : Symbol) (us : List Lexeme) : Type 0 where
   pub open_at_most : ℕ
   pub more : List Lexeme

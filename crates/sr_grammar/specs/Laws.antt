@@ -3,43 +3,44 @@ use Rattle.std.specs.Prelude.{◌≡◌, ℕ, suc, Bool, true, ◌≤◌, ◌<�
 use Rattle.sr_ast.specs.declared.tree.Tree.{Tree}
 use Rattle.sr_syntax.specs.declared.sorts.Lexeme.{Lexeme}
 use Rattle.sr_syntax.specs.declared.grown.Grown.{Grown}
-use Rattle.sr_syntax.specs.declared.grown.Goal.TheVariants as goal
+use Rattle.sr_syntax.specs.declared.grown.Goal.{Goal}
 use Rattle.sr_syntax.specs.declared.refusal.Refusal.TheVariants.{Syntax, TooDeep}
 use Rattle.sr_syntax.specs.Input.{Input, start, place_at, max_depth}
-use Rattle.sr_syntax.specs.Grammar.{expression, tree, script_of}
-use Rattle.sr_grammar.specs.Derivations.{Derives, Expression, end_after}
+use Rattle.sr_syntax.specs.Expressions.{expression}
+use Rattle.sr_syntax.specs.Grammar.{tree, script_of, module_of}
+use Rattle.sr_grammar.specs.Reading.{end_after}
+use Rattle.sr_grammar.specs.Derivations.{Derives, Expression}
 use Rattle.sr_grammar.specs.Continuing.{EndsExpression}
 use Rattle.sr_grammar.specs.Stopping.{Stops}
-use Rattle.sr_grammar.specs.Statements.{States, Clear}
-use Rattle.sr_grammar.specs.Scripts.{Script}
+use Rattle.sr_grammar.specs.Scripts.{Script, Module}
 use Rattle.sr_grammar.specs.Faults.{Begins}
 
 -- In the laws of expressions the flag says whether `in` is an operator.
 
--- What is read derives, with as many that are open at once, and is not deeper than the greatest depth.
+-- What is read derives, with as many rules that may be open at once, and is not deeper than the greatest depth.
 abbrev pub Sound : Type 0
 Sound = (b : Bool) (d size : ℕ) (ts : List Lexeme) (x : Grown) (i : Input) → expression (tree d) b (start ts size) ≡ Ok (x, i)
     → (us : List Lexeme) × (ts ≡ us ++ i.rest) × Derives d (Expression b) us x × (x.height ≤ max_depth)
 
--- behind these tokens
+-- what is left behind these tokens
 abbrev pub behind : List Lexeme → List Lexeme → ℕ → Input
 behind us rest size = record { rest = rest; last = end_after 0 us; size = size }
 
--- What derives and is not deeper is read, with that tree, before what does not continue it.
+-- What derives and is not deeper than the greatest depth is read, with that tree, before what does not continue it.
 abbrev pub Complete : Type 0
 Complete = (b : Bool) (d size : ℕ) (us rest : List Lexeme) (x : Grown) → Derives d (Expression b) us x → EndsExpression b rest → x.height ≤ max_depth
     → expression (tree d) b (start (us ++ rest) size) ≡ Ok (x, behind us rest size)
 
--- What derives and is deeper is too deep.
+-- What derives and is deeper than the greatest depth is too deep, before what does not continue it.
 abbrev pub TooTall : Type 0
 TooTall = (b : Bool) (d size : ℕ) (us rest : List Lexeme) (x : Grown) → Derives d (Expression b) us x → EndsExpression b rest → max_depth < x.height
     → expression (tree d) b (start (us ++ rest) size) ≡ Err TooDeep
 
--- Tokens have one tree, if one that is not too deep.
+-- Tokens have one tree at the most, if one that is not deeper than the greatest depth.
 abbrev pub Unique : Type 0
 Unique = (b : Bool) (d e : ℕ) (us : List Lexeme) (x y : Grown) → Derives d (Expression b) us x → x.height ≤ max_depth → Derives e (Expression b) us y → x ≡ y
 
--- No expression begins with these tokens and the first of the others, or with these alone is one where there are no others.
+-- No expression begins with these tokens and the first of the others, or, where there are no others, is these tokens alone.
 abbrev pub Ended : Bool → List Lexeme → List Lexeme → Type 0
 Ended b us [] = (e : ℕ) (x : Grown) → Derives e (Expression b) us x → ⊥
 Ended b us (t ∷ ts) = (e : ℕ) (vs : List Lexeme) (x : Grown) → Derives e (Expression b) (us ++ t ∷ vs) x → ⊥
@@ -50,53 +51,83 @@ abbrev pub FirstFault : Type 0
 FirstFault = (b : Bool) (d size place : ℕ) (ts : List Lexeme) → expression (tree d) b (start ts size) ≡ Err (Syntax place)
     → (us rest : List Lexeme) × (ts ≡ us ++ rest) × (place ≡ place_at size rest) × Begins (Expression b) us × Ended b us rest
 
--- Where more may be open, what was read is read again, and what failed fails at the same place: only what was too deep can
--- have another answer.
+-- Where more rules may be open, what was read is read again, and what failed fails at the same place: only what was too deep
+-- can have another answer.
 abbrev pub MoreOpen : Type 0
 MoreOpen = (b : Bool) (d e size : ℕ) (ts : List Lexeme) → d ≤ e
     → ((x : Grown) (i : Input) → expression (tree d) b (start ts size) ≡ Ok (x, i) → expression (tree e) b (start ts size) ≡ Ok (x, i))
     × ((place : ℕ) → expression (tree d) b (start ts size) ≡ Err (Syntax place) → expression (tree e) b (start ts size) ≡ Err (Syntax place))
 
--- Tokens that are an expression where more may be open, and no deeper, and are none with so many open, are too deep.
+-- Tokens that are an expression where more rules may be open, no deeper than the greatest depth, and are none where so many may be, are too deep.
 abbrev pub OpensTooMany : Type 0
 OpensTooMany = (b : Bool) (d e size : ℕ) (us rest : List Lexeme) (x : Grown) → Derives e (Expression b) us x → EndsExpression b rest → x.height ≤ max_depth
     → (Derives d (Expression b) us x → ⊥) → expression (tree d) b (start (us ++ rest) size) ≡ Err TooDeep
 
--- What is read goes as far as an expression can.
+-- What is read goes as far as an expression can in which `in` is an operator.
 abbrev pub Longest : Type 0
 Longest = (d size : ℕ) (ts : List Lexeme) (x : Grown) (i : Input) → expression (tree d) true (start ts size) ≡ Ok (x, i)
     → (us : List Lexeme) × (ts ≡ us ++ i.rest) × Derives d (Expression true) us x × Stops us i.rest
 
--- What is read as a statement is one before what follows.
-abbrev pub SoundStatement : Type 0
-SoundStatement = (d size : ℕ) (ts : List Lexeme) (x : Grown) (i : Input) → tree (suc d) goal.Statement (start ts size) ≡ Ok (x, i)
-    → (us : List Lexeme) × (ts ≡ us ++ i.rest) × States d us i.rest x × (x.height ≤ max_depth)
+-- ---- statements, items, and items of modules: each goal with its relation
 
--- And where more may be open, only a statement that was too deep can have another answer.
-abbrev pub MoreOpenStatement : Type 0
-MoreOpenStatement = (d e size : ℕ) (ts : List Lexeme) → d ≤ e
-    → ((x : Grown) (i : Input) → tree d goal.Statement (start ts size) ≡ Ok (x, i) → tree e goal.Statement (start ts size) ≡ Ok (x, i))
-    × ((place : ℕ) → tree d goal.Statement (start ts size) ≡ Err (Syntax place) → tree e goal.Statement (start ts size) ≡ Err (Syntax place))
+-- a relation between tokens, those that follow, and a tree, where so many more rules may be open at once
+abbrev pub Relation : Type 1
+Relation = ℕ → List Lexeme → List Lexeme → Grown → Type 0
 
--- What derives as a statement before what follows and is not deeper is read, with that tree, where no line begins with a token
--- that could continue an expression.
-abbrev pub CompleteStatement : Type 0
-CompleteStatement = (d size : ℕ) (us rest : List Lexeme) (x : Grown) → States d us rest x → Clear (us ++ rest) → x.height ≤ max_depth
-    → tree (suc d) goal.Statement (start (us ++ rest) size) ≡ Ok (x, behind us rest size)
+-- What is read is one before what follows, and is not deeper than the greatest depth.
+abbrev pub SoundAs : Goal → Relation → Type 0
+SoundAs goal Is = (d size : ℕ) (ts : List Lexeme) (x : Grown) (i : Input) → tree (suc d) goal (start ts size) ≡ Ok (x, i)
+    → (us : List Lexeme) × (ts ≡ us ++ i.rest) × Is d us i.rest x × (x.height ≤ max_depth)
 
--- And what is deeper is too deep.
-abbrev pub TooTallStatement : Type 0
-TooTallStatement = (d size : ℕ) (us rest : List Lexeme) (x : Grown) → States d us rest x → Clear (us ++ rest) → max_depth < x.height
-    → tree (suc d) goal.Statement (start (us ++ rest) size) ≡ Err TooDeep
+-- What is one before what follows and is not deeper than the greatest depth is read, with that tree.
+abbrev pub CompleteAs : Goal → Relation → Type 0
+CompleteAs goal Is = (d size : ℕ) (us rest : List Lexeme) (x : Grown) → Is d us rest x → x.height ≤ max_depth
+    → tree (suc d) goal (start (us ++ rest) size) ≡ Ok (x, behind us rest size)
 
--- Tokens are one statement at most before what follows, among those that are not deeper.
-abbrev pub UniqueStatement : Type 0
-UniqueStatement = (d e : ℕ) (us rest : List Lexeme) (x y : Grown) → Clear (us ++ rest) → States d us rest x → x.height ≤ max_depth → States e us rest y → y.height ≤ max_depth → x ≡ y
+-- What is one before what follows and is deeper than the greatest depth is too deep.
+abbrev pub TooTallAs : Goal → Relation → Type 0
+TooTallAs goal Is = (d size : ℕ) (us rest : List Lexeme) (x : Grown) → Is d us rest x → max_depth < x.height
+    → tree (suc d) goal (start (us ++ rest) size) ≡ Err TooDeep
+
+-- Tokens have one tree at the most before what follows, if one that is not deeper than the greatest depth.
+abbrev pub UniqueAs : Relation → Type 0
+UniqueAs Is = (d e : ℕ) (us rest : List Lexeme) (x y : Grown) → Is d us rest x → x.height ≤ max_depth → Is e us rest y → x ≡ y
+
+-- Where more rules may be open, what was read is read again, and what failed fails at the same place.
+abbrev pub MoreOpenAs : Goal → Type 0
+MoreOpenAs goal = (d e size : ℕ) (ts : List Lexeme) → d ≤ e
+    → ((x : Grown) (i : Input) → tree d goal (start ts size) ≡ Ok (x, i) → tree e goal (start ts size) ≡ Ok (x, i))
+    × ((place : ℕ) → tree d goal (start ts size) ≡ Err (Syntax place) → tree e goal (start ts size) ≡ Err (Syntax place))
+
+-- The tokens begin one: they and more are one before some that follow.
+abbrev pub BeginsAs : Relation → List Lexeme → Type 0
+BeginsAs Is us = (d : ℕ) × (more : List Lexeme) × (rest : List Lexeme) × (x : Grown) × Is d (us ++ more) rest x
+
+-- None begins with these tokens and the first of the others, whatever follows, or, where there are no others, is these tokens alone at the end.
+abbrev pub EndedAs : Relation → List Lexeme → List Lexeme → Type 0
+EndedAs Is us [] = (e : ℕ) (x : Grown) → Is e us [] x → ⊥
+EndedAs Is us (t ∷ ts) = (e : ℕ) (vs rest : List Lexeme) (x : Grown) → Is e (us ++ t ∷ vs) rest x → ⊥
+
+-- Where reading fails, the tokens before the place begin one; and those up to the token at the place, or to the end, begin
+-- none, however much it may have open and however deep it is.
+abbrev pub FirstFaultAs : Goal → Relation → Type 0
+FirstFaultAs goal Is = (d size place : ℕ) (ts : List Lexeme) → tree (suc d) goal (start ts size) ≡ Err (Syntax place)
+    → (us rest : List Lexeme) × (ts ≡ us ++ rest) × (place ≡ place_at size rest) × BeginsAs Is us × EndedAs Is us rest
+
+-- ---- whole texts
 
 -- What is read as a script is one.
 abbrev pub SoundScript : Type 0
 SoundScript = (tokens : List Lexeme) (size : ℕ) (xs : List Tree) → script_of tokens size ≡ Ok xs → Script tokens xs
 
--- What is a script is read, with those trees, where no line begins with a token that could continue an expression.
+-- What is read as a module is one.
+abbrev pub SoundModule : Type 0
+SoundModule = (tokens : List Lexeme) (size : ℕ) (xs : List Tree) → module_of tokens size ≡ Ok xs → Module tokens xs
+
+-- A script is read, with its trees.
 abbrev pub CompleteScript : Type 0
-CompleteScript = (tokens : List Lexeme) (size : ℕ) (xs : List Tree) → Script tokens xs → Clear tokens → script_of tokens size ≡ Ok xs
+CompleteScript = (tokens : List Lexeme) (size : ℕ) (xs : List Tree) → Script tokens xs → script_of tokens size ≡ Ok xs
+
+-- A module is read, with its trees.
+abbrev pub CompleteModule : Type 0
+CompleteModule = (tokens : List Lexeme) (size : ℕ) (xs : List Tree) → Module tokens xs → module_of tokens size ≡ Ok xs

@@ -2,6 +2,8 @@ pub mod Continuing
 pub mod Derivations
 pub mod Faults
 pub mod Laws
+pub mod Modules
+pub mod Names
+pub mod Reading
 pub mod Scripts
-pub mod Statements
 pub mod Stopping

@@ -1,9 +1,12 @@
-//! The grammar of expressions as a relation between tokens and trees, and what holds between it and the parser.
+//! The grammar as a relation between tokens and trees, and what holds between it and the parser.
 //!
 //! The relation and the laws stand in `specs/`. Each function here is a law: it does nothing, and its contract is proved.
 #![tactic(auto)]
 
-ghost use Rattle.sr_grammar.specs.Laws.{Complete, CompleteScript, CompleteStatement, FirstFault, Longest, MoreOpen, MoreOpenStatement, OpensTooMany, Sound, SoundScript, SoundStatement, TooTall, TooTallStatement, Unique, UniqueStatement};
+ghost use Rattle.sr_syntax.specs.declared.grown.Goal.TheVariants as goal;
+ghost use Rattle.sr_grammar.specs.Derivations.{IsItem, States};
+ghost use Rattle.sr_grammar.specs.Modules.{IsModuleItem};
+ghost use Rattle.sr_grammar.specs.Laws.{Complete, CompleteAs, CompleteModule, CompleteScript, FirstFault, FirstFaultAs, Longest, MoreOpen, MoreOpenAs, OpensTooMany, Sound, SoundAs, SoundModule, SoundScript, TooTall, TooTallAs, Unique, UniqueAs};
 
 /// What is read as an expression is one, and is no deeper than is read.
 pub fn what_is_read_derives()
@@ -45,38 +48,56 @@ pub fn as_much_as_can_be_is_read()
     ensures { Longest }
 {}
 
-/// What is read as a statement is one before what follows, and is no deeper than is read.
-pub fn what_is_read_is_a_statement()
-    ensures { SoundStatement }
+/// What is read as a statement, an item or an item of a module is one before what follows, and is no deeper than is read.
+pub fn what_is_read_is_one()
+    ensures statements { SoundAs goal.Statement States }
+    ensures items { SoundAs goal.Item IsItem }
+    ensures module_items { SoundAs goal.ModuleItem IsModuleItem }
 {}
 
-/// Where more rules may be open at once, only a statement that was too deep can have another answer.
-pub fn more_open_changes_only_statements_that_were_too_deep()
-    ensures { MoreOpenStatement }
+/// A statement, an item or an item of a module that is no deeper than is read is read, with its tree.
+pub fn what_is_one_is_read()
+    ensures statements { CompleteAs goal.Statement States }
+    ensures items { CompleteAs goal.Item IsItem }
+    ensures module_items { CompleteAs goal.ModuleItem IsModuleItem }
 {}
 
-/// A statement that is no deeper than is read is read, with its tree, where no line begins with a token that could continue
-/// an expression.
-pub fn what_is_a_statement_is_read()
-    ensures { CompleteStatement }
+/// One that is deeper is too deep.
+pub fn one_that_is_deeper_is_too_deep()
+    ensures statements { TooTallAs goal.Statement States }
+    ensures items { TooTallAs goal.Item IsItem }
+    ensures module_items { TooTallAs goal.ModuleItem IsModuleItem }
 {}
 
-/// A statement that is deeper is too deep.
-pub fn a_statement_that_is_deeper_is_too_deep()
-    ensures { TooTallStatement }
+/// Tokens are one at the most before what follows, if one that is no deeper than is read.
+pub fn tokens_are_one_at_most()
+    ensures statements { UniqueAs States }
+    ensures items { UniqueAs IsItem }
+    ensures module_items { UniqueAs IsModuleItem }
 {}
 
-/// Tokens are one statement at the most before what follows, among those that are no deeper than is read.
-pub fn tokens_are_one_statement()
-    ensures { UniqueStatement }
+/// Where more rules may be open at once, only what was too deep can have another answer.
+pub fn more_open_changes_only_ones_that_were_too_deep()
+    ensures statements { MoreOpenAs goal.Statement }
+    ensures items { MoreOpenAs goal.Item }
+    ensures module_items { MoreOpenAs goal.ModuleItem }
 {}
 
-/// What is read as a script is one.
-pub fn what_is_read_is_a_script()
-    ensures { SoundScript }
+/// The place of a failure is the first token that cannot continue a statement, an item or an item of a module.
+pub fn the_first_fault_of_one_is_found()
+    ensures statements { FirstFaultAs goal.Statement States }
+    ensures items { FirstFaultAs goal.Item IsItem }
+    ensures module_items { FirstFaultAs goal.ModuleItem IsModuleItem }
 {}
 
-/// A script is read, with its trees, where no line begins with a token that could continue an expression.
-pub fn what_is_a_script_is_read()
-    ensures { CompleteScript }
+/// What is read as a script or a module is one.
+pub fn what_is_read_is_a_text()
+    ensures scripts { SoundScript }
+    ensures modules { SoundModule }
+{}
+
+/// A script or a module is read, with its trees.
+pub fn what_is_a_text_is_read()
+    ensures scripts { CompleteScript }
+    ensures modules { CompleteModule }
 {}
