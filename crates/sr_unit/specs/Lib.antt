@@ -1,0 +1,5 @@
+pub mod Kinds
+pub mod Laws
+pub mod Numbers
+pub mod Parts
+pub mod Units

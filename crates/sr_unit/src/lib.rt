@@ -1,0 +1,22 @@
+//! Scripts and modules as units of code (ECMA-262 16.1, 16.2): their items, whether they are strict, and the numbers of their trees.
+#![tactic(auto)]
+
+/// Copies of what stands in trees and is no tree.
+mod copies;
+/// The laws of the definitions.
+pub mod laws;
+/// The numbers of trees.
+mod numbers;
+/// The unit of a text.
+mod reading;
+/// What a unit is.
+pub mod unit;
+/// Words in texts.
+mod words;
+
+pub use reading::{parse_module, parse_script};
+pub use sr_syntax::refusal::Refusal;
+pub use unit::{Goal, Unit};
+
+#[cfg(test)]
+mod tests;
