@@ -12,5 +12,6 @@ pub mod TextSteps
 pub mod Punctuators
 pub mod PunctuatorLaws
 pub mod NumberLaws
+pub mod RunLaws
 pub mod RowLaws
 pub mod TextLaws

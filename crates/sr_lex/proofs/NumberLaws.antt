@@ -19,7 +19,7 @@ use Rattle.sr_lex.proofs.Truth.{or_true, same_number, and_in, both_ways}
 abbrev pub cap : ℕ → ℕ
 cap n = min n 0x20000000000000
 
-cap_step : (base v d : ℕ) → 1 ≤ base → cap (cap v * base + d) ≡ cap (v * base + d)
+pub cap_step : (base v d : ℕ) → 1 ≤ base → cap (cap v * base + d) ≡ cap (v * base + d)
 cap_step base v d some =
     elim (cases_lt v 0x20000000000000) [
       | inl below ↦ let here : cap v ≡ v = omega arith in rw here refl

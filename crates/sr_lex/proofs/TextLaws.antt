@@ -1,16 +1,16 @@
 -- The tokens of a text: the function that finds them, and the relation.
-use Rattle.std.proofs.Common.{◌≡◌, ℕ, zero, suc, ◌+◌, ◌-◌, ◌≤◌, ◌<◌, ◌≢◌, Bool, true, false, ◌||◌, List, [], ◌∷◌, length, take, drop, Result, Ok, Err, refl, sym, ap, ◌∙◌, subst, arith, ◌⊎◌, inl, inr}
+use Rattle.std.proofs.Common.{◌≡◌, ℕ, zero, suc, ◌+◌, ◌-◌, ◌≤◌, ◌<◌, ◌≢◌, Bool, true, false, ◌||◌, List, [], ◌∷◌, length, take, drop, refl, sym, ap, ◌∙◌, subst, arith, ◌⊎◌, inl, inr}
 use Rattle.std.specs.Prelude.{Option, Some, None, IsTrue, MatchOption, ⊤, slice_get, slice_range, slice_index_or, ◌==◌, nat_le}
 use Rattle.std.specs.List.{list_all}
 use Rattle.std.proofs.lemmas.List.{drop-drop, length-drop}
 use Rattle.std.proofs.lemmas.Option.{slice_get_within, slice_get_past}
 use Rattle.sr_lex.specs.Units.{is_between, is_line_end, is_white_space, is_digit, is_name_start, is_name_part}
 use Rattle.sr_lex.specs.Strings.{is_quote}
-use Rattle.sr_lex.specs.Tokens.{Comment, single_line, multi_line, hashbang, IsFirst, LineEnds, Gap, none, white_space, line_end, comment, NoComment, IsRow, HasRow, IsLongest, Spans, last, next, Fails, here, later, Tokens, FailsAt, IsTokenOf, token_units}
+use Rattle.sr_lex.specs.Tokens.{Comment, single_line, multi_line, hashbang, IsFirst, LineEnds, Gap, none, white_space, line_end, comment, NoComment, IsRow, HasRow, IsLongest, Spans, last, next, Fails, here, later, Tokens, FailsAfter, FailsAt, IsTokenOf, token_units}
 use Rattle.sr_lex.specs.Brackets.{in_substitution, brackets_after}
 use Rattle.sr_lex.specs.Templates.{backquote, right_brace, is_piece_start}
-use Rattle.sr_lex.specs.Scan.{line_len, piece, row, token_of, with_front, lexed}
-use Rattle.sr_lex.specs.Laws.{OneReading, OneFailure, TokensOrFailure, EachTextIsRead}
+use Rattle.sr_lex.specs.Scan.{line_len, piece, row, token_of, Run, with_front, lexed}
+use Rattle.sr_lex.specs.Laws.{OneReading, OneFailure, OneFront, TokensOrFailure, EachTextIsRead}
 use Rattle.sr_lex.specs.declared.token.Token.{Token}
 use Rattle.sr_lex.specs.declared.token.TokenKind.{TokenKind}
 use Rattle.sr_lex.specs.declared.token.TokenKind.TheVariants.{Name, Number, Text, Template, Punctuator}
@@ -258,9 +258,12 @@ gap_within (comment {text} {at} {next} {to} {line} c g) = λ l. gap_within g (co
 
 -- ---- what is found, the relation has
 
-abbrev pub Holds : List ℕ → ℕ → List Bracket → Result (List Token) ℕ → Type 0
-Holds text at bs (Ok ts) = Spans text at bs ts
-Holds text at bs (Err p) = Fails text at bs p
+abbrev pub HoldsTo : List ℕ → ℕ → List Bracket → List Token → Option ℕ → Type 0
+HoldsTo text at bs ts None = Spans text at bs ts
+HoldsTo text at bs ts (Some p) = Fails text at bs ts p
+
+abbrev pub Holds : List ℕ → ℕ → List Bracket → Run → Type 0
+Holds text at bs r = HoldsTo text at bs r.0 r.1
 
 -- the brackets after a token of the text
 abbrev after_token : List ℕ → List Bracket → Token → List Bracket
@@ -270,10 +273,10 @@ after_token text bs t = brackets_after bs t.kind (token_units text t)
 units_are : (text : List ℕ) (t : Token) (n : ℕ) → t.to ≡ t.from + n → token_units text t ≡ take n (drop t.from text)
 units_are text t n e = ap (slice_range text t.from) e ∙ range_is text t.from n
 
-front_holds : (text : List ℕ) (at : ℕ) (bs : List Bracket) (t : Token) (o : Result (List Token) ℕ) → Gap text at t.from t.line_before → NoComment text t.from
-    → IsLongest (in_substitution bs) text t.kind t.from t.to → Holds text t.to (after_token text bs t) o → Holds text at bs (with_front t o)
-front_holds text at bs t (Ok ts) g n l h = next g n l h
-front_holds text at bs t (Err p) g n l h = later g n l h
+front_holds : (text : List ℕ) (at : ℕ) (bs : List Bracket) (t : Token) (ts : List Token) (o : Option ℕ) → Gap text at t.from t.line_before → NoComment text t.from
+    → IsLongest (in_substitution bs) text t.kind t.from t.to → HoldsTo text t.to (after_token text bs t) ts o → HoldsTo text at bs (t ∷ ts) o
+front_holds text at bs t ts None g n l h = next g n l h
+front_holds text at bs t ts (Some p) g n l h = later g n l h
 
 past_end : (text : List ℕ) (at : ℕ) → at ≤ length text → length (drop at text) ≤ 0 → at ≡ length text
 past_end text at a l = omega (arith, length-drop at text)
@@ -339,7 +342,7 @@ turn_holds m text at bs a l again =
         subst (Holds text at bs) (sym (goes m at bs us g x refl h (ap (row (in_substitution bs)) there ∙ r)
         ∙ ap (λ (xs : List ℕ). with_front t (lexed m (place + x.units) (brackets_after bs x.kind (take x.units (drop g.units us))) xs)) rest
         ∙ ap (λ (xs : List ℕ). with_front t (lexed m (place + x.units) (brackets_after bs x.kind xs) (drop (place + x.units) text))) own))
-        (front_holds text at bs t (lexed m (place + x.units) (after_token text bs t) (drop (place + x.units) text)) found (no_comment text place none_there)
+        (front_holds text at bs t (lexed m (place + x.units) (after_token text bs t) (drop (place + x.units) text)).0 (lexed m (place + x.units) (after_token text bs t) (drop (place + x.units) text)).1 found (no_comment text place none_there)
         (row_longest (in_substitution bs) text place x the) after)
 
 pub text_holds : (m : ℕ) (text : List ℕ) (at : ℕ) (bs : List Bracket) → at ≤ length text → length (drop at text) ≤ m → Holds text at bs (lexed m at bs (drop at text))
@@ -362,7 +365,7 @@ at_token : (inside : Bool) (text : List ℕ) (at : ℕ) (t : Token) → Gap text
     → (at + (gap_at (length (drop at text)) text at).units ≡ t.from) × ((gap_at (length (drop at text)) text at).line ≡ t.line_before)
 at_token inside text at t g n l = gap_is g (length (drop at text)) (omega arith) (quiet text t.from n (λ u e. has_ink inside text t.kind t.from t.to u l.row e))
 
-token_turn : (m : ℕ) (text : List ℕ) (at : ℕ) (bs : List Bracket) (t : Token) (o : Result (List Token) ℕ) → length (drop at text) ≤ m
+token_turn : (m : ℕ) (text : List ℕ) (at : ℕ) (bs : List Bracket) (t : Token) (o : Run) → length (drop at text) ≤ m
     → Gap text at t.from t.line_before → NoComment text t.from → IsLongest (in_substitution bs) text t.kind t.from t.to
     → ((j : ℕ) → length (drop t.to text) ≤ j → lexed j t.to (after_token text bs t) (drop t.to text) ≡ o) → lexed m at bs (drop at text) ≡ with_front t o
 token_turn zero text at bs t o most g n l again =
@@ -400,7 +403,7 @@ token_turn (suc j) text at bs t o most g n l again =
 end_quiet : (text : List ℕ) → (piece_at text (length text)).units ≡ 0
 end_quiet text = no_piece text (length text) (omega (arith, length-drop (length text) text))
 
-last_turn : (m : ℕ) (text : List ℕ) (at : ℕ) (bs : List Bracket) (line : Bool) → length (drop at text) ≤ m → Gap text at (length text) line → lexed m at bs (drop at text) ≡ Ok []
+last_turn : (m : ℕ) (text : List ℕ) (at : ℕ) (bs : List Bracket) (line : Bool) → length (drop at text) ≤ m → Gap text at (length text) line → lexed m at bs (drop at text) ≡ ([], None)
 last_turn zero text at bs line most g = refl
 last_turn (suc j) text at bs line most g =
     let us = drop at text in
@@ -408,9 +411,9 @@ last_turn (suc j) text at bs line most g =
     let place = (gap_is g (length us) (omega arith) (end_quiet text)).0 in
     ends j at bs us b refl (omega (arith, length-drop b.units us, length-drop at text))
 
-pub text_reads : {text : List ℕ} {at : ℕ} {bs : List Bracket} {ts : List Token} → Spans text at bs ts → (m : ℕ) → length (drop at text) ≤ m → lexed m at bs (drop at text) ≡ Ok ts
+pub text_reads : {text : List ℕ} {at : ℕ} {bs : List Bracket} {ts : List Token} → Spans text at bs ts → (m : ℕ) → length (drop at text) ≤ m → lexed m at bs (drop at text) ≡ (ts, None)
 text_reads (last {text} {at} {brackets = bs} {line} g) = λ m most. last_turn m text at bs line most g
-text_reads (next {text} {at} {brackets = bs} {t} {ts} g n l s) = λ m most. token_turn m text at bs t (Ok ts) most g n l (text_reads s)
+text_reads (next {text} {at} {brackets = bs} {t} {ts} g n l s) = λ m most. token_turn m text at bs t (ts, None) most g n l (text_reads s)
 
 none_found : (inside : Bool) (text : List ℕ) (at : ℕ) → ((kind : TokenKind) (to : ℕ) → ¬ HasRow inside text kind at to) → row inside (drop at text) ≡ None
 none_found inside text at h = go (row inside (drop at text)) (row_says inside (drop at text))
@@ -429,7 +432,7 @@ stuck_at text at place u line g n e w l =
 
 stuck_turn : (m : ℕ) (text : List ℕ) (at place u : ℕ) (bs : List Bracket) (line : Bool) → length (drop at text) ≤ m → Gap text at place line → NoComment text place
     → slice_get text place ≡ Some u → is_white_space u ≡ false → is_line_end u ≡ false
-    → ((kind : TokenKind) (to : ℕ) → ¬ HasRow (in_substitution bs) text kind place to) → lexed m at bs (drop at text) ≡ Err place
+    → ((kind : TokenKind) (to : ℕ) → ¬ HasRow (in_substitution bs) text kind place to) → lexed m at bs (drop at text) ≡ ([], Some place)
 stuck_turn zero text at place u bs line most g n e w l none_there =
     let f = stuck_at text at place u line g n e w l in
     let within = slice_get_within text place u e in
@@ -441,11 +444,12 @@ stuck_turn (suc j) text at place u bs line most g n e w l none_there =
     let within = slice_get_within text place u e in
     let there : drop b.units us ≡ drop place text = drop-drop b.units at text ∙ ap (λ (i : ℕ). drop i text) f in
     let more : length (drop b.units us) ≢ 0 = λ z. absurd (omega (arith, length-drop place text, ap length there, z)) in
-    fails j at bs us b refl more (ap (row (in_substitution bs)) there ∙ none_found (in_substitution bs) text place none_there) ∙ ap Err f
+    fails j at bs us b refl more (ap (row (in_substitution bs)) there ∙ none_found (in_substitution bs) text place none_there) ∙ ap (λ (i : ℕ). ([], Some i)) f
 
-pub text_fails : {text : List ℕ} {at place : ℕ} {bs : List Bracket} → Fails text at bs place → (m : ℕ) → length (drop at text) ≤ m → lexed m at bs (drop at text) ≡ Err place
+pub text_fails : {text : List ℕ} {at place : ℕ} {bs : List Bracket} {ts : List Token} → Fails text at bs ts place → (m : ℕ) → length (drop at text) ≤ m
+    → lexed m at bs (drop at text) ≡ (ts, Some place)
 text_fails (here {text} {at} {place} {u} {brackets = bs} {line} g n e w l none_there) = λ m most. stuck_turn m text at place u bs line most g n e w l none_there
-text_fails (later {text} {at} {place} {brackets = bs} {t} g n l s) = λ m most. token_turn m text at bs t (Err place) most g n l (text_fails s)
+text_fails (later {text} {at} {place} {brackets = bs} {t} {ts} g n l s) = λ m most. token_turn m text at bs t (ts, Some place) most g n l (text_fails s)
 
 -- ---- the laws
 
@@ -455,40 +459,48 @@ whole text = omega arith
 pub one_reading_law : OneReading
 one_reading_law text ts rs a b =
     let x = text_reads a (length text) (whole text) in
-    let y = text_reads b (length text) (whole text) in cc
+    let y = text_reads b (length text) (whole text) in ap (λ (r : Run). r.0) (sym x ∙ y)
 
 pub one_failure_law : OneFailure
 one_failure_law text p q a b =
+    let x = text_fails a.1 (length text) (whole text) in
+    let y = text_fails b.1 (length text) (whole text) in
+    let e : Some p ≡ Some q = ap (λ (r : Run). r.1) (sym x ∙ y) in cc
+
+pub one_front_law : OneFront
+one_front_law text ts rs p q a b =
     let x = text_fails a (length text) (whole text) in
-    let y = text_fails b (length text) (whole text) in cc
+    let y = text_fails b (length text) (whole text) in ap (λ (r : Run). r.0) (sym x ∙ y)
 
 pub tokens_or_failure_law : TokensOrFailure
 tokens_or_failure_law text ts p a b =
     let x = text_reads a (length text) (whole text) in
-    let y = text_fails b (length text) (whole text) in cc
+    let y = text_fails b.1 (length text) (whole text) in
+    let e : None ≡ Some p = ap (λ (r : Run). r.1) (sym x ∙ y) in cc
 
 pub each_text_law : EachTextIsRead
-each_text_law text = go (lexed (length text) 0 [] (drop 0 text)) (text_holds (length text) text 0 [] (omega arith) (whole text))
+each_text_law text = let r = lexed (length text) 0 [] (drop 0 text) in go r.0 r.1 (text_holds (length text) text 0 [] (omega arith) (whole text))
   where
-    go : (o : Result (List Token) ℕ) → Holds text 0 [] o → ((ts : List Token) × Tokens text ts) ⊎ ((p : ℕ) × FailsAt text p)
-    go (Ok ts) h = inl (ts, h)
-    go (Err p) h = inr (p, h)
+    go : (ts : List Token) (o : Option ℕ) → HoldsTo text 0 [] ts o → ((ts : List Token) × Tokens text ts) ⊎ ((p : ℕ) × FailsAt text p)
+    go ts None h = inl (ts, h)
+    go ts (Some p) h = inr (p, (ts, h))
 
 -- ---- what `lex` says
+
+at_index : (inside : Bool) (text : List ℕ) (t : Token) (ts : List Token) → IsLongest inside text t.kind t.from t.to → ((k : ℕ) (d : Token) → k < length ts → IsTokenOf text (slice_index_or ts k d))
+    → (k : ℕ) (d : Token) → k < suc (length ts) → IsTokenOf text (slice_index_or (t ∷ ts) k d)
+at_index inside text t ts l again zero d less =
+    record { nonempty = (has_row_at inside text t.kind t.from t.to l.row).0; in_text = l.row.0; row = (inside, l.row.1) }
+at_index inside text t ts l again (suc k) d less = again k d (omega arith)
 
 -- each token of a text is one
 pub token_of_text : {text : List ℕ} {at : ℕ} {bs : List Bracket} {ts : List Token} → Spans text at bs ts → (k : ℕ) (t : Token) → k < length ts → IsTokenOf text (slice_index_or ts k t)
 token_of_text (last {text} {at} {brackets = bs} {line} g) = λ k t l. absurd (omega arith)
 token_of_text (next {text} {at} {brackets = bs} {t} {ts} g n l s) = λ k d less. at_index (in_substitution bs) text t ts l (token_of_text s) k d less
-  where
-    at_index : (inside : Bool) (text : List ℕ) (t : Token) (ts : List Token) → IsLongest inside text t.kind t.from t.to → ((k : ℕ) (d : Token) → k < length ts → IsTokenOf text (slice_index_or ts k d))
-        → (k : ℕ) (d : Token) → k < suc (length ts) → IsTokenOf text (slice_index_or (t ∷ ts) k d)
-    at_index inside text t ts l again zero d less =
-        record { nonempty = (has_row_at inside text t.kind t.from t.to l.row).0; in_text = l.row.0; row = (inside, l.row.1) }
-    at_index inside text t ts l again (suc k) d less = again k d (omega arith)
 
-pub lexed_tokens : (text : List ℕ) (ts : List Token) → lexed (length text) 0 [] text ≡ Ok ts → Tokens text ts
-lexed_tokens text ts e = subst (Holds text 0 []) e (text_holds (length text) text 0 [] (omega arith) (whole text))
+pub fails_token_of : {text : List ℕ} {at place : ℕ} {bs : List Bracket} {ts : List Token} → Fails text at bs ts place → (k : ℕ) (t : Token) → k < length ts → IsTokenOf text (slice_index_or ts k t)
+fails_token_of (here {text} {at} {place} {u} {brackets} {line} g n e w l none_there) = λ k t less. absurd (omega arith)
+fails_token_of (later {text} {at} {place} {brackets = bs} {t} {ts} g n l s) = λ k d less. at_index (in_substitution bs) text t ts l (fails_token_of s) k d less
 
-pub lexed_fails : (text : List ℕ) (p : ℕ) → lexed (length text) 0 [] text ≡ Err p → FailsAt text p
-lexed_fails text p e = subst (Holds text 0 []) e (text_holds (length text) text 0 [] (omega arith) (whole text))
+pub lexed_is : (text : List ℕ) (ts : List Token) (o : Option ℕ) → lexed (length text) 0 [] text ≡ (ts, o) → HoldsTo text 0 [] ts o
+lexed_is text ts o e = subst (Holds text 0 []) e (text_holds (length text) text 0 [] (omega arith) (whole text))

@@ -3,7 +3,7 @@ use Rattle.std.specs.Prelude.{◌≡◌, ℕ, ℤ, Option, List, ◌⊎◌}
 use Rattle.sr_lex.specs.Strings.{StringLiteral}
 use Rattle.sr_lex.specs.Numbers.{NumberLiteral}
 use Rattle.sr_lex.specs.Templates.{TemplatePiece}
-use Rattle.sr_lex.specs.Tokens.{Tokens, FailsAt}
+use Rattle.sr_lex.specs.Tokens.{Tokens, FailsAfter, FailsAt}
 use Rattle.sr_lex.specs.declared.token.Token.{Token}
 
 -- a text has the tokens of one list at most
@@ -13,6 +13,10 @@ OneReading = (text : List ℕ) (ts rs : List Token) → Tokens text ts → Token
 -- it fails at one place at most
 abbrev pub OneFailure : Type 0
 OneFailure = (text : List ℕ) (p q : ℕ) → FailsAt text p → FailsAt text q → p ≡ q
+
+-- and after one list of tokens
+abbrev pub OneFront : Type 0
+OneFront = (text : List ℕ) (ts rs : List Token) (p q : ℕ) → FailsAfter text ts p → FailsAfter text rs q → ts ≡ rs
 
 -- a text that has tokens does not fail
 abbrev pub TokensOrFailure : Type 0

@@ -5,6 +5,7 @@ pub mod Templates
 pub mod Brackets
 pub mod Tokens
 pub mod Laws
+pub mod Failures
 pub mod Answers
 pub mod Scan
 pub mod Closed

@@ -1,6 +1,6 @@
 -- How far what stands at the front of some units reaches, unit by unit. The contracts of private functions cite this; the
 -- relations of Tokens and Strings say what it means.
-use Rattle.std.specs.Prelude.{◌≡◌, ℕ, zero, suc, ◌+◌, ◌*◌, ◌<◌, ◌≤◌, min, Bool, true, false, not, ◌||◌, ◌&&◌, ◌==◌, nat_lt, nat_le, if◌then◌else◌, List, [], ◌∷◌, ◌++◌, length, take, drop, slice_index, nat_eq, codes, Option, Some, None, unwrap_or, ⊤, IfSome, option_map, option_and_then, Result, Ok, Err}
+use Rattle.std.specs.Prelude.{◌≡◌, ℕ, zero, suc, ◌+◌, ◌*◌, ◌<◌, ◌≤◌, min, Bool, true, false, not, ◌||◌, ◌&&◌, ◌==◌, nat_lt, nat_le, if◌then◌else◌, List, [], ◌∷◌, ◌++◌, length, take, drop, slice_index, nat_eq, codes, Option, Some, None, unwrap_or, ⊤, IfSome, option_map, option_and_then}
 use Rattle.std.specs.Option.{option_map_or}
 use Rattle.std.specs.List.{list_any}
 use Rattle.std.specs.Char.{digit_value}
@@ -279,18 +279,21 @@ row inside (u ∷ us) =
 abbrev pub token_of : Row → ℕ → Bool → Token
 token_of r from line = record { kind = r.kind; from = from; to = from + r.units; line_before = line }
 
-abbrev pub with_front : Token → Result (List Token) ℕ → Result (List Token) ℕ
-with_front t (Ok ts) = Ok (t ∷ ts)
-with_front t (Err p) = Err p
+-- tokens, and the place of the failure that ends them
+abbrev pub Run : Type 0
+Run = List Token × Option ℕ
 
--- the tokens of a text whose units from a place on are these, where these brackets are open, or the place of its failure, in at
+abbrev pub with_front : Token → Run → Run
+with_front t r = (t ∷ r.0, r.1)
+
+-- the tokens of a text whose units from a place on are these, where these brackets are open, up to its end or its failure, in at
 -- most so many turns
-abbrev pub lexed : ℕ → ℕ → List Bracket → List ℕ → Result (List Token) ℕ
-lexed zero at brackets us = Ok []
+abbrev pub lexed : ℕ → ℕ → List Bracket → List ℕ → Run
+lexed zero at brackets us = ([], None)
 lexed (suc m) at brackets us =
     let g = gap (length us) (at == 0) us in
     let from = at + g.units in
     let rest = drop g.units us in
-    if length rest == 0 then Ok []
+    if length rest == 0 then ([], None)
     else option_map_or (λ r. with_front (token_of r from g.line) (lexed m (from + r.units) (brackets_after brackets r.kind (take r.units rest)) (drop r.units rest)))
-    (row (in_substitution brackets) rest) (Err from)
+    (row (in_substitution brackets) rest) ([], Some from)

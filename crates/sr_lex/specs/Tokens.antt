@@ -117,19 +117,23 @@ pub data Spans : List ℕ → ℕ → List Bracket → List Token → Type 0 whe
 abbrev pub Tokens : List ℕ → List Token → Type 0
 Tokens text ts = Spans text 0 [] ts
 
--- From a place on, the text has tokens up to a place at which no gap goes on and no token begins.
-pub data Fails : List ℕ → ℕ → List Bracket → ℕ → Type 0 where
+-- From a place on, the text has these tokens up to a place at which no gap goes on and no token begins.
+pub data Fails : List ℕ → ℕ → List Bracket → List Token → ℕ → Type 0 where
   here : {text : List ℕ} {at place u : ℕ} {brackets : List Bracket} {line : Bool}
       → Gap text at place line → NoComment text place → slice_get text place ≡ Some u
       → is_white_space u ≡ false → is_line_end u ≡ false
-      → ((kind : TokenKind) (to : ℕ) → ¬ HasRow (in_substitution brackets) text kind place to) → Fails text at brackets place
-  later : {text : List ℕ} {at place : ℕ} {brackets : List Bracket} {t : Token}
+      → ((kind : TokenKind) (to : ℕ) → ¬ HasRow (in_substitution brackets) text kind place to) → Fails text at brackets [] place
+  later : {text : List ℕ} {at place : ℕ} {brackets : List Bracket} {t : Token} {ts : List Token}
       → Gap text at t.from t.line_before → NoComment text t.from → IsLongest (in_substitution brackets) text t.kind t.from t.to
-      → Fails text t.to (brackets_after brackets t.kind (token_units text t)) place → Fails text at brackets place
+      → Fails text t.to (brackets_after brackets t.kind (token_units text t)) ts place → Fails text at brackets (t ∷ ts) place
 
--- the first place of a text at which no token fits
+-- the first place of a text at which no token fits, and the tokens before it
+abbrev pub FailsAfter : List ℕ → List Token → ℕ → Type 0
+FailsAfter text ts place = Fails text 0 [] ts place
+
+-- that place alone
 abbrev pub FailsAt : List ℕ → ℕ → Type 0
-FailsAt text place = Fails text 0 [] place
+FailsAt text place = (ts : List Token) × FailsAfter text ts place
 
 -- ---- one token
 

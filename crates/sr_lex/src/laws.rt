@@ -1,4 +1,4 @@
-ghost use Rattle.sr_lex.specs.Laws.{OneReading, OneFailure, TokensOrFailure, EachTextIsRead, OneValue, OneNumber, OnePieceValue};
+ghost use Rattle.sr_lex.specs.Laws.{OneReading, OneFailure, OneFront, TokensOrFailure, EachTextIsRead, OneValue, OneNumber, OnePieceValue};
 
 /// A text has the tokens of one list at most.
 pub fn one_reading()
@@ -8,6 +8,11 @@ pub fn one_reading()
 /// A text fails at one place at most.
 pub fn one_failure()
     ensures { OneFailure }
+{}
+
+/// A text fails after the tokens of one list at most.
+pub fn one_front()
+    ensures { OneFront }
 {}
 
 /// A text that has tokens does not fail.

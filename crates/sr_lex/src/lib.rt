@@ -5,6 +5,8 @@
 mod brackets;
 /// The characters of string literals and template pieces.
 mod characters;
+/// What a failure is called, where it is of something that is left out by name.
+mod failures;
 /// White space, line ends and comments.
 mod gaps;
 /// String literals and template pieces.
@@ -22,8 +24,9 @@ mod token;
 /// Code units by what tokens ask of them.
 mod units;
 
-pub use reading::{lex, number_value, string_value, template_value, token_text};
-pub use token::{LexRefusal, Token, TokenKind};
+pub use failures::failure_marker;
+pub use reading::{lex, lex_to_failure, number_value, string_value, template_value, token_text};
+pub use token::{LexRefusal, Lexed, Token, TokenKind};
 
 #[cfg(test)]
 mod tests;

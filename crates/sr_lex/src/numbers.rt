@@ -1,4 +1,4 @@
-ghost use Rattle.std.specs.Prelude.{◌≡◌, ◌≤◌, IfSome, false, pos};
+ghost use Rattle.std.specs.Prelude.{◌≡◌, ◌≤◌, IfSome, false, length, pos};
 ghost use Rattle.sr_num.specs.StringToNumber.{base_of_letter, named_base};
 ghost use Rattle.sr_lex.specs.Scan as spec;
 ghost use Rattle.sr_lex.specs.Numbers as numbers;
@@ -14,7 +14,7 @@ const DIGIT_ZERO: u16 = 0x30;
 const LOW_LINE: u16 = 0x5F;
 
 /// Number.MAX_SAFE_INTEGER (ECMA-262 21.1.2.6).
-const MAX_SAFE: u64 = 9_007_199_254_740_991;
+pub const MAX_SAFE: u64 = 9_007_199_254_740_991;
 
 /// The value of digits of the base with single separators between them, where a value above `MAX_SAFE` shows as one more
 /// than that; none for other units.
@@ -46,7 +46,7 @@ fn separated_value(units: &[u16], base: u32) -> Option<u64>
 #[tactic(auto, unfolding(sr_num::specs::StringToNumber::base_of_letter))]
 fn base_of_letter(letter: u16) -> Option<u32>
     ensures value { result ≡ base_of_letter letter }
-    ensures within { IfSome result (λ base. base ≤ 16) }
+    ensures within { IfSome result (λ base. (1 ≤ base) × (base ≤ 16)) }
 {
     match letter {
         0x62 | 0x42 => Some(2),
@@ -79,9 +79,11 @@ pub fn is_safe_value(value: Option<u64>) -> bool
     }
 }
 
-/// The base that the first two units name.
-fn named_base(units: &[u16]) -> Option<u32>
-    ensures { result ≡ named_base units.now }
+/// The base that the first two units name, and there are two then.
+pub fn named_base(units: &[u16]) -> Option<u32>
+    ensures value { result ≡ named_base units.now }
+    ensures within { IfSome result (λ base. (1 ≤ base) × (base ≤ 16)) }
+    ensures two { IfSome result (λ base. 2 ≤ length units.now) }
 {
     match units {
         [DIGIT_ZERO, letter, ..] => base_of_letter(*letter),
@@ -89,7 +91,8 @@ fn named_base(units: &[u16]) -> Option<u32>
     }
 }
 
-fn begins_with_name_part(units: &[u16]) -> bool
+/// Whether the first of the units is one of a name.
+pub fn begins_with_name_part(units: &[u16]) -> bool
     ensures { result ≡ begins_with_name_part units.now }
 {
     match units {

@@ -1,6 +1,6 @@
-ghost use Rattle.std.specs.Prelude.{◌≡◌, ◌<◌, ◌≤◌, Ok, [], length, All, IfOk, IfErr};
+ghost use Rattle.std.specs.Prelude.{◌≡◌, ◌<◌, ◌≤◌, [], length, All, IfOk, IfErr};
 ghost use Rattle.sr_lex.specs.Tokens.{Tokens, IsTokenOf, token_units};
-ghost use Rattle.sr_lex.specs.Answers.{Refuses, Gives};
+ghost use Rattle.sr_lex.specs.Answers.{LexesTo, Refuses};
 ghost use Rattle.sr_lex.specs.Strings.{StringLiteral, IsLiteral};
 ghost use Rattle.sr_lex.specs.Numbers.{NumberLiteral};
 ghost use Rattle.sr_lex.specs.Templates.{TemplatePiece, IsPiece};
@@ -12,18 +12,17 @@ use crate::gaps::gap;
 use crate::literals::literal_value;
 use crate::numbers::literal_number;
 use crate::rows::row_at_front;
-use crate::token::{LexRefusal, Token};
+use crate::token::{LexRefusal, Lexed, Token};
 use crate::units::BACKQUOTE;
 use sr_num::Num;
 use sr_text::{Str, TextRefusal};
 use std::alloc::{AllocError, Global};
 
-/// The tokens of these units, or the first place at which no token fits.
-fn tokens_of(alloc: Global, text: &[u16]) -> Result<Vec<Token>, LexRefusal>
-    ensures tokens { IfOk result (λ v. spec.lexed (length text.now) 0 [] text.now ≡ Ok v.items) }
-    ensures refused { IfErr result (λ refusal. Gives (spec.lexed (length text.now) 0 [] text.now) refusal) }
+/// The tokens of these units, up to the first place at which no token fits.
+fn tokens_of(alloc: Global, text: &[u16]) -> Result<Lexed, AllocError>
+    ensures { IfOk result (λ lexed. spec.lexed (length text.now) 0 [] text.now ≡ (lexed.tokens.items, lexed.failure)) }
 {
-    let mut found = Vec::new(alloc);
+    let mut tokens = Vec::new(alloc);
     let mut brackets = Vec::new(alloc);
     let mut at = 0;
     let mut unclosed = false;
@@ -31,32 +30,53 @@ fn tokens_of(alloc: Global, text: &[u16]) -> Result<Vec<Token>, LexRefusal>
         let gap = gap(&text[at..], at == 0, &mut unclosed);
         let from = at + gap.units;
         if from == text.len() {
-            return Ok(found);
+            return Ok(Lexed {
+                tokens,
+                failure: None,
+            });
         }
         let Some(row) = row_at_front(in_substitution(&brackets), &text[from..]) else {
-            return Err(LexRefusal::Syntax(from));
+            return Ok(Lexed {
+                tokens,
+                failure: Some(from),
+            });
         };
         at = from + row.units;
         pass(&mut brackets, row.kind, &text[from..at])?;
-        found.push(Token {
+        tokens.push(Token {
             kind: row.kind,
             from,
             to: at,
             line_before: gap.line,
         })?;
     }
-    Ok(found)
+    Ok(Lexed {
+        tokens,
+        failure: None,
+    })
 }
 
-/// The tokens of the text, from the left (ECMA-262 12); a template comes in pieces, and the `}` that ends a substitution begins
-/// one (12.9.6). `Syntax` comes exactly where the text has none, with the first place at which no token fits, and `Memory`
-/// where memory runs out.
+/// The tokens of the text, from the left (ECMA-262 12), up to its end or the first place at which no token fits; a template comes
+/// in pieces, and the `}` that ends a substitution begins one (12.9.6). `AllocError` comes where memory runs out.
+pub fn lex_to_failure(alloc: Global, text: &Str) -> Result<Lexed, AllocError>
+    ensures tokens { IfOk result (λ lexed. LexesTo text.now lexed.tokens.items lexed.failure) }
+    ensures each { IfOk result (λ lexed. All (IsTokenOf text.now) lexed.tokens.items) }
+{
+    tokens_of(alloc, text.units())
+}
+
+/// The tokens of the text, as `lex_to_failure` reads them. `Syntax` comes exactly where the text has none, with the first place at
+/// which no token fits, and `Memory` where memory runs out.
 pub fn lex(alloc: Global, text: &Str) -> Result<Vec<Token>, LexRefusal>
     ensures tokens { IfOk result (λ v. Tokens text.now v.items) }
     ensures each { IfOk result (λ v. All (IsTokenOf text.now) v.items) }
     ensures refused { IfErr result (λ refusal. Refuses text.now refusal) }
 {
-    tokens_of(alloc, text.units())
+    let lexed = lex_to_failure(alloc, text)?;
+    match lexed.failure {
+        None => Ok(lexed.tokens),
+        Some(place) => Err(LexRefusal::Syntax(place)),
+    }
 }
 
 /// The code units of a token.

@@ -1,5 +1,8 @@
-use crate::{LexRefusal, TokenKind, lex, number_value, string_value, template_value, token_text};
-use sr_text::Str;
+use crate::{
+    LexRefusal, TokenKind, failure_marker, lex, lex_to_failure, number_value, string_value,
+    template_value, token_text,
+};
+use sr_text::{Marker, Str};
 use std::alloc::Global;
 use std::fmt::Write;
 use std::test::Fail;
@@ -367,6 +370,64 @@ fn reads_number_values(rt: HostRuntime) -> Result<(), Fail> {
             Err(_) => None,
         };
         assert!(rt; read == value, "of {literal:?}");
+    }
+    Ok(())
+}
+
+/// Texts that fail, with the number of the tokens before, the place of the failure, and its marker.
+const FAILURES: [(&str, usize, usize, Option<Marker>); 34] = [
+    ("a 1.5", 1, 2, Some(Marker::NumberForm)),
+    ("1e5", 0, 0, Some(Marker::NumberForm)),
+    ("1_0E5", 0, 0, Some(Marker::NumberForm)),
+    ("08.5", 0, 0, Some(Marker::NumberForm)),
+    ("0_1.", 0, 0, Some(Marker::NumberForm)),
+    ("1.a", 0, 0, Some(Marker::NumberForm)),
+    ("a?.5", 2, 2, Some(Marker::NumberForm)),
+    ("1_.5", 0, 0, None),
+    ("1__0.5", 0, 0, None),
+    ("08", 0, 0, None),
+    ("0_1", 0, 0, None),
+    ("1a", 0, 0, None),
+    ("0b2", 0, 0, None),
+    ("1n", 0, 0, Some(Marker::Bigint)),
+    ("a = 1_0n", 2, 4, Some(Marker::Bigint)),
+    ("0x1Fn", 0, 0, Some(Marker::Bigint)),
+    ("0xn", 0, 0, None),
+    ("0b12n", 0, 0, None),
+    ("9007199254740993n", 0, 0, Some(Marker::Bigint)),
+    ("9007199254740992.5", 0, 0, Some(Marker::NumberForm)),
+    ("9007199254740992", 0, 0, Some(Marker::UnsafeLiteral)),
+    ("9_007199254740992", 0, 0, Some(Marker::UnsafeLiteral)),
+    ("0x20000000000000", 0, 0, Some(Marker::UnsafeLiteral)),
+    ("0x20_000000000000.a", 0, 0, Some(Marker::UnsafeLiteral)),
+    ("9007199254740992a", 0, 0, None),
+    ("09007199254740992", 0, 0, None),
+    ("a\\u0062", 1, 1, Some(Marker::IdentifierEscape)),
+    ("a\u{e9}", 1, 1, Some(Marker::NonAscii)),
+    ("a \u{1f600}", 1, 2, Some(Marker::NonAscii)),
+    ("a.#b", 2, 2, Some(Marker::Hash)),
+    ("\n#! a", 0, 1, Some(Marker::Hash)),
+    ("@a", 0, 0, Some(Marker::At)),
+    ("a '\\u{110000}'", 1, 2, None),
+    ("`${a} b", 2, 4, None),
+];
+
+#[test]
+fn names_failures(rt: HostRuntime) -> Result<(), Fail> {
+    let alloc = rt.alloc();
+    for (text, tokens, place, marker) in FAILURES {
+        let read = Str::from_utf8(alloc, text.as_bytes())?;
+        let lexed = lex_to_failure(alloc, &read)?;
+        assert_eq!(rt; lexed.tokens.len(), tokens, "tokens of {text:?}");
+        assert!(rt; lexed.failure == Some(place), "place in {text:?}");
+        assert!(rt;
+            failure_marker(&read, place) == marker,
+            "marker in {text:?}"
+        );
+        assert!(rt;
+            failure_marker(&read, read.units().len()) == None,
+            "past {text:?}"
+        );
     }
     Ok(())
 }

@@ -32,6 +32,15 @@ pub struct Token {
     pub line_before: bool,
 }
 
+/// The tokens of a text up to its end, or up to the first place at which none fits.
+#[derive(Debug, Drop)]
+pub struct Lexed {
+    /// The tokens, in order.
+    pub tokens: Vec<Token>,
+    /// The first place at which no token fits, in code units; none where the tokens reach the end.
+    pub failure: Option<usize>,
+}
+
 /// Why a text cannot be read as tokens.
 #[derive(Debug, Drop, Error)]
 pub enum LexRefusal {

@@ -1,5 +1,5 @@
 use Rattle.std.proofs.Common.{◌≡◌, ◌+◌, ◌-◌, ◌≤◌, ◌≢◌, ◌++◌, [], ◌∷◌, ℕ, List, Bool, take, drop, length, reverse, arith, rules, sym, ap, ◌∙◌, subst}
-use Rattle.std.specs.Prelude.{IsTrue, ◌==◌, Some, None, Ok, slice_range}
+use Rattle.std.specs.Prelude.{IsTrue, ◌==◌, Some, None, slice_range}
 use Rattle.std.proofs.lemmas.Grind.{common_steps}
 use Rattle.std.proofs.lemmas.List.{take_rest, length-drop, drop-drop, append-nil}
 use Rattle.sr_lex.specs.Scan.{gap, row, token_of, lexed}
@@ -12,8 +12,8 @@ use Rattle.sr_lex.proofs.Places.{range_is}
 use Rattle.sr_lex.proofs.GapSteps.{closed_on}
 use Rattle.sr_lex.proofs.TextSteps.{behind, text_ends, text_fails, text_goes}
 
-pub returns-then-from-text-clause-tokens : goal.returns-then-from-text-clause-tokens
-returns-then-from-text-clause-tokens c =
+pub returns-then-from-text : goal.returns-then-from-text
+returns-then-from-text c =
     let text = c.args.text.now in
     let at = c.loop-turn.at in
     let us = drop at text in
@@ -24,11 +24,11 @@ returns-then-from-text-clause-tokens c =
     let is : gap (length us) (at == 0) us ≡ g = rw take_rest at (sym c.gap-gap.ensures.value) in
     let over : length (drop g.units us) ≡ 0 = omega (arith, length-drop g.units us, length-drop at text, c.if-from-text.true) in
     sym c.loop-turn.invariant.told
-    ∙ ap (behind c.loop-turn.found.items) (text_ends left later at bs us g (omega arith) is over)
-    ∙ ap Ok (append-nil c.loop-turn.found.items)
+    ∙ ap (behind c.loop-turn.tokens.items) (text_ends left later at bs us g (omega arith) is over)
+    ∙ ap (λ (ts : List Token). (ts, None)) (append-nil c.loop-turn.tokens.items)
 
-pub returns-in_default-clause-refused : goal.returns-in_default-clause-refused
-returns-in_default-clause-refused c =
+pub returns-in_default : goal.returns-in_default
+returns-in_default c =
     let text = c.args.text.now in
     let at = c.loop-turn.at in
     let us = drop at text in
@@ -45,7 +45,8 @@ returns-in_default-clause-refused c =
     let none : row (in_substitution bs) (drop g.units us) ≡ None =
     ap (row (in_substitution bs)) (drop-drop g.units at text) ∙ ap (λ (i : Bool). row i (drop (at + g.units) text)) (sym inside) ∙ read in
     sym c.loop-turn.invariant.told
-    ∙ ap (behind c.loop-turn.found.items) (text_fails left later at bs us g (omega arith) is more none)
+    ∙ ap (behind c.loop-turn.tokens.items) (text_fails left later at bs us g (omega arith) is more none)
+    ∙ ap (λ (ts : List Token). (ts, Some (at + g.units))) (append-nil c.loop-turn.tokens.items)
 
 pub loop-turn-preserved : goal.loop-turn-preserved
 loop-turn-preserved c =
@@ -56,7 +57,7 @@ loop-turn-preserved c =
     let g = c.gap-gap.result in
     let r = c.in-Some.row in
     let from = at + g.units in
-    let ts = c.loop-turn.found.items in
+    let ts = c.loop-turn.tokens.items in
     let left = length text - c.loop-turn._turn in
     let later = length text - (c.loop-turn._turn + 1) in
     let is : gap (length us) (at == 0) us ≡ g = rw take_rest at (sym c.gap-gap.ensures.value) in

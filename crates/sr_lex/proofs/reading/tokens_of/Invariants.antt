@@ -7,7 +7,7 @@ use Rattle.sr_lex.proofs.reading.tokens_of.Given as goal
 
 abbrev pub invariant-loop-turn : goal.invariant-loop-turn
 invariant-loop-turn l = record {
-  told : behind l.found.items (lexed (l._turn-end - l._turn) l.at (reverse l.brackets.items) (drop l.at l.text)) ≡ lexed (length l.text) 0 [] l.text;
+  told : behind l.tokens.items (lexed (l._turn-end - l._turn) l.at (reverse l.brackets.items) (drop l.at l.text)) ≡ lexed (length l.text) 0 [] l.text;
   within : l.at ≤ length l.text;
   unclosed : IsTrue l.unclosed → NoClose (drop 2 (drop l.at l.text));
 }
