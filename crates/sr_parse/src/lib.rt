@@ -9,7 +9,8 @@ pub mod laws;
 mod reading;
 
 pub use reading::{
-    parse_expr, parse_item, parse_module, parse_module_items, parse_script, parse_statements,
+    module_items, parse_expr, parse_item, parse_module, parse_module_items, parse_script,
+    parse_statements, script,
 };
 pub use sr_syntax::refusal::Refusal;
 

@@ -10,8 +10,9 @@ use sqlite_items::Items;
 use sr_ast::Tree;
 use sr_lex::{Token, lex};
 use sr_parse_expr::grammar::Grammar;
+use sr_parse_stmt::statements::Statements;
 use sr_shared::Shared;
-use sr_syntax::grown::{Goal, Grown};
+use sr_syntax::grown::Grown;
 use sr_syntax::lexemes::lexemes;
 use sr_syntax::refusal::Refusal;
 use sr_syntax::sorts::{Sort, same_sort};
@@ -40,7 +41,12 @@ fn expression(alloc: Global, tokens: &mut Tokens<'_>) -> Result<Grown, Refusal>
 fn item(alloc: Global, tokens: &mut Tokens<'_>) -> Result<Grown, Refusal>
     ensures { Reads (spec.whole_item tokens.old) result tokens.new }
 {
-    tree(alloc, tokens, MAX_OPEN, Goal::Item)
+    let grammar = Grammar {
+        alloc,
+        depth: MAX_OPEN,
+        tree,
+    };
+    Statements { grammar }.item(tokens)
 }
 
 /// An item of a module.
@@ -48,12 +54,17 @@ fn item(alloc: Global, tokens: &mut Tokens<'_>) -> Result<Grown, Refusal>
 fn module_item(alloc: Global, tokens: &mut Tokens<'_>) -> Result<Grown, Refusal>
     ensures { Reads (spec.whole_module_item tokens.old) result tokens.new }
 {
-    tree(alloc, tokens, MAX_OPEN, Goal::ModuleItem)
+    let grammar = Grammar {
+        alloc,
+        depth: MAX_OPEN,
+        tree,
+    };
+    Statements { grammar }.module_item(tokens)
 }
 
 /// Items to the end of the text (ECMA-262 16.1).
 #[tactic(auto, unfolding(sr_syntax::specs::Grammar::script, sr_syntax::specs::Grammar::script_from))]
-fn script(alloc: Global, tokens: &mut Tokens<'_>) -> Result<Items<Shared<Tree>>, Refusal>
+pub fn script(alloc: Global, tokens: &mut Tokens<'_>) -> Result<Items<Shared<Tree>>, Refusal>
     ensures { Reads (spec.script tokens.old) result tokens.new }
 {
     let mut found = Items::new(alloc);
@@ -68,7 +79,7 @@ fn script(alloc: Global, tokens: &mut Tokens<'_>) -> Result<Items<Shared<Tree>>,
 
 /// Items, imports and exports to the end of the text (16.2).
 #[tactic(auto, unfolding(sr_syntax::specs::Grammar::module_items, sr_syntax::specs::Grammar::module_from))]
-fn module_items(alloc: Global, tokens: &mut Tokens<'_>) -> Result<Items<Shared<Tree>>, Refusal>
+pub fn module_items(alloc: Global, tokens: &mut Tokens<'_>) -> Result<Items<Shared<Tree>>, Refusal>
     ensures { Reads (spec.module_items tokens.old) result tokens.new }
 {
     let mut found = Items::new(alloc);

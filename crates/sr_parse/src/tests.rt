@@ -9,6 +9,8 @@ use std::alloc::{AllocError, Global};
 use std::fmt::Write;
 use std::test::Fail;
 
+/// What is too deep.
+mod depth;
 /// Functions and objects in expressions.
 mod functions;
 /// Statements, imports and exports.
@@ -305,23 +307,6 @@ const PLACES: [(&str, usize, usize, usize, usize); 16] = [
     ("try { } finally { }", 0, 19, 4, 7),
     ("for (let a of b) c;", 0, 19, 14, 15),
     ("switch (a) { }", 0, 14, 8, 9),
-];
-
-/// An opening, a middle and a closing text, and how often the outer two may stand around the middle one.
-const LIMITS: [(&str, &str, &str, u32); 13] = [
-    ("(", "a", ")", 332),
-    ("{", "", "}", 1000),
-    ("!", "a", "", 996),
-    ("a+", "a", "", 998),
-    ("a=", "a", "", 996),
-    ("if(a)", ";", "", 997),
-    ("a:", ";", "", 999),
-    ("try{", "", "}finally{}", 500),
-    ("switch(a){case b:", "", "}", 997),
-    ("[", "a", "]", 332),
-    ("new ", "a", "", 996),
-    ("`${", "a", "}`", 332),
-    ("", "a", ".b", 998),
 ];
 
 /// The characters of a string of ASCII.
@@ -680,45 +665,5 @@ fn reads_from_a_token(rt: HostRuntime) -> Result<(), Fail> {
     assert_eq!(rt; number, 7);
     assert_eq!(rt; tree.get().from, 4);
     assert_eq!(rt; tree.get().to, 9);
-    Ok(())
-}
-
-/// A text around another one, so many times.
-fn nested(
-    alloc: Global,
-    open: &str,
-    middle: &str,
-    close: &str,
-    times: u32,
-) -> Result<String, Fail> {
-    let mut text = String::new(alloc);
-    for _ in 0..times {
-        text.push_str(open)?;
-    }
-    text.push_str(middle)?;
-    for _ in 0..times {
-        text.push_str(close)?;
-    }
-    Ok(text)
-}
-
-fn is_too_deep(alloc: Global, text: &str) -> Result<bool, Fail> {
-    let text = Str::from_utf8(alloc, text.as_bytes())?;
-    match parse_script(alloc, &text) {
-        Ok(_) => Ok(false),
-        Err(Refusal::TooDeep) => Ok(true),
-        Err(refusal) => Err(refusal)?,
-    }
-}
-
-#[test]
-fn limits_depth(rt: HostRuntime) -> Result<(), Fail> {
-    let alloc = rt.alloc();
-    for (open, middle, close, times) in LIMITS {
-        let most = nested(alloc, open, middle, close, times)?;
-        assert!(rt; !is_too_deep(alloc, &most)?, "of {open:?}");
-        let more = nested(alloc, open, middle, close, times + 1)?;
-        assert!(rt; is_too_deep(alloc, &more)?, "of {open:?}");
-    }
     Ok(())
 }

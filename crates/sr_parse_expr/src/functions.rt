@@ -4,9 +4,10 @@ ghost use Rattle.sr_syntax.specs.Grammar as grammar;
 ghost use Rattle.sr_syntax.specs.Nests.{Nests};
 
 use crate::grammar::Grammar;
-use sr_ast::{Binding, Node, Parameters};
-use sr_syntax::bodies::{arrow_parameters, arrow_token, parameter_list};
-use sr_syntax::grown::{Goal, Grove, Grown, assign_goal, none, with};
+use sqlite_items::Items;
+use sr_ast::{Binding, HeadKind, Node, Parameters};
+use sr_syntax::bodies::{arrow_parameters, arrow_token, opened, parameter_list};
+use sr_syntax::grown::{Goal, Grove, Grown, OpenFunction, assign_goal, none, with};
 use sr_syntax::names::{binding, binding_if_there};
 use sr_syntax::refusal::Refusal;
 use sr_syntax::sorts::Sort;
@@ -14,18 +15,61 @@ use sr_syntax::tokens::Tokens;
 use std::alloc::Global;
 
 impl<F: Fn(Global, &mut Tokens<'_>, usize, Goal) -> Result<Grown, Refusal>> Grammar<F> {
-    /// Items and the closing brace (ECMA-262 14.2).
+    /// The items before a function declaration and it, behind the brace that closes its body (ECMA-262 15.2).
+    #[tactic(auto, unfolding(sr_syntax::specs::Bodies::closed))]
+    fn closed(
+        &self,
+        tokens: &Tokens<'_>,
+        function: OpenFunction,
+        all: Grove,
+    ) -> Result<Grove, Refusal>
+        ensures { Reads (spec.closed function all tokens.now) result tokens.now }
+    {
+        let OpenFunction {
+            from,
+            name,
+            parameters,
+            before,
+        } = function;
+        let node = Node::FunctionDeclaration(Some(name), parameters, all.trees);
+        let x = self.complete(tokens, node, from, all.tall)?;
+        Ok(with(before, x)?)
+    }
+
+    /// Items and the closing brace (14.2). Functions that are declared directly in one another are read in one loop, which
+    /// keeps those whose bodies are open.
     #[tactic(auto, unfolding(sr_syntax::specs::Bodies::items, sr_syntax::specs::Bodies::items_from))]
     fn items(&self, tokens: &mut Tokens<'_>) -> Result<Grove, Refusal>
         requires { Nests self.now.depth (F.pre self.now.tree) (F.post self.now.tree) }
         ensures { Reads (spec.items (grammar.tree self.now.depth) tokens.old) result tokens.new }
     {
+        let mut around = Items::new(self.alloc);
         let mut found = none(self.alloc);
         for _turn in 0..tokens.turns() {
-            if tokens.eat(Sort::RightBrace) {
-                return Ok(found);
+            let from = tokens.place();
+            match tokens.peek() {
+                Sort::RightBrace => {
+                    tokens.take();
+                    match around.pop() {
+                        None => return Ok(found),
+                        Some(function) => found = self.closed(tokens, function, found)?,
+                    }
+                }
+                Sort::Function => {
+                    tokens.take();
+                    around.push(opened(self.alloc, tokens, from, found)?)?;
+                    found = none(self.alloc);
+                }
+                Sort::Let => {
+                    tokens.take();
+                    found = with(found, self.declared_by(tokens, HeadKind::Let, from)?)?;
+                }
+                Sort::Const => {
+                    tokens.take();
+                    found = with(found, self.declared_by(tokens, HeadKind::Const, from)?)?;
+                }
+                _ => found = with(found, self.nest(tokens, Goal::Statement)?)?,
             }
-            found = with(found, self.nest(tokens, Goal::Item)?)?;
         }
         Err(tokens.refuse())
     }

@@ -1,6 +1,8 @@
-//! Expressions, functions and object literals (ECMA-262 13, 15), each rule above a parser of what is open while it is read.
+//! Expressions, functions, object literals and declarations of names (ECMA-262 13, 14.3, 15), each rule above a parser of what is open while it is read.
 #![tactic(auto)]
 
+/// Declarations of names.
+pub mod declarations;
 /// Expressions.
 mod expressions;
 /// Bodies and functions.

@@ -2,23 +2,12 @@ ghost use Rattle.std.specs.Prelude.{◌≡◌, IfOk};
 ghost use Rattle.sr_syntax.specs.Statements as spec;
 
 use sqlite_items::Items;
-use sr_ast::{Case, Declaration, HeadKind, LexicalKind, Node, Tree};
+use sr_ast::{Case, Tree};
 use sr_shared::Shared;
 use sr_syntax::grown::{Cases, Grove, Grown};
 use sr_syntax::sorts::Sort;
 use sr_syntax::tokens::Tokens;
 use std::alloc::{AllocError, Global};
-
-/// What `var`, `let` or `const` makes of declarations (ECMA-262 14.3).
-pub fn declaring(how: HeadKind, found: Items<Declaration>) -> Node
-    ensures { result ≡ spec.declaring how found }
-{
-    match how {
-        HeadKind::Var => Node::Var(found),
-        HeadKind::Let => Node::Lexical(LexicalKind::Let, found),
-        HeadKind::Const => Node::Lexical(LexicalKind::Const, found),
-    }
-}
 
 /// No clauses of a `switch`.
 pub fn no_cases(alloc: Global) -> Cases

@@ -3,9 +3,10 @@ ghost use Rattle.sr_syntax.specs.Statements as spec;
 ghost use Rattle.sr_syntax.specs.Grammar as grammar;
 ghost use Rattle.sr_syntax.specs.Nests.{Nests};
 
-use crate::clauses::declaring;
 use crate::statements::Statements;
-use sr_ast::{HeadBinding, HeadKind};
+use sqlite_items::Items;
+use sr_ast::{Declaration, HeadBinding, HeadKind};
+use sr_parse_expr::declarations::declaring;
 use sr_syntax::grown::{Goal, Grown, nothing, part_of};
 use sr_syntax::names::binding;
 use sr_syntax::operators::is_target;
@@ -15,6 +16,25 @@ use sr_syntax::tokens::Tokens;
 use std::alloc::Global;
 
 impl<F: Fn(Global, &mut Tokens<'_>, usize, Goal) -> Result<Grown, Refusal>> Statements<F> {
+    /// The declarations behind a first one, in the head of a `for` (ECMA-262 14.7.4).
+    #[tactic(auto, unfolding(sr_syntax::specs::Statements::more_declarations))]
+    fn more_declarations(
+        &self,
+        tokens: &mut Tokens<'_>,
+        first: Declaration,
+        tall: usize,
+    ) -> Result<(Items<Declaration>, usize), Refusal>
+        requires { Nests self.now.grammar.depth (F.pre self.now.grammar.tree) (F.post self.now.grammar.tree) }
+        ensures { Reads (spec.more_declarations (grammar.tree self.now.grammar.depth) first tall tokens.old) result tokens.new }
+    {
+        let mut found = Items::new(self.grammar.alloc);
+        found.push(first)?;
+        if !tokens.eat(Sort::Comma) {
+            return Ok((found, tall));
+        }
+        self.grammar.declarations_behind(tokens, false, found, tall)
+    }
+
     /// The declarations at first in the head of a `for`, behind the first name, with their semicolon, which is not inserted.
     #[tactic(auto, unfolding(sr_syntax::specs::Statements::for_declarations))]
     fn for_declarations(
@@ -27,14 +47,16 @@ impl<F: Fn(Global, &mut Tokens<'_>, usize, Goal) -> Result<Grown, Refusal>> Stat
         ensures { Reads (spec.for_declarations (grammar.tree self.now.grammar.depth) start head tokens.old) result tokens.new }
     {
         let HeadBinding { kind, binding } = head;
-        let (first, height) = self.declared(tokens, false, binding.from, binding.name)?;
+        let (first, height) = self
+            .grammar
+            .declared(tokens, false, binding.from, binding.name)?;
         let (found, tall) = self.more_declarations(tokens, first, height)?;
         tokens.expect(Sort::Semicolon)?;
         self.grammar
             .complete(tokens, declaring(kind, found), start, tall)
     }
 
-    /// A `for` that begins with declarations, behind the first name (ECMA-262 14.7.4).
+    /// A `for` that begins with declarations, behind the first name (14.7.4).
     #[tactic(auto, unfolding(sr_syntax::specs::Statements::for_declared))]
     fn for_declared(
         &self,

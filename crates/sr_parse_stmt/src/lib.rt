@@ -5,8 +5,6 @@
 mod clauses;
 /// `if`, `do` and `while`.
 mod conditions;
-/// Declarations of names.
-mod declarations;
 /// The heads of `for`.
 mod heads;
 /// `continue`, `break`, `return`, `throw` and `debugger`.

@@ -113,7 +113,7 @@ impl<F: Fn(Global, &mut Tokens<'_>, usize, Goal) -> Result<Grown, Refusal>> Stat
         requires { Nests self.now.grammar.depth (F.pre self.now.grammar.tree) (F.post self.now.grammar.tree) }
         ensures { Reads (spec.exported_by (grammar.tree self.now.grammar.depth) how from start tokens.old) result tokens.new }
     {
-        let x = self.declared_by(tokens, how, start)?;
+        let x = self.grammar.declared_by(tokens, how, start)?;
         self.grammar
             .complete(tokens, Node::Export(x.tree), from, x.height)
     }
@@ -215,7 +215,7 @@ impl<F: Fn(Global, &mut Tokens<'_>, usize, Goal) -> Result<Grown, Refusal>> Stat
 
     /// An import, an export, or what an item of a script is (16.2).
     #[tactic(auto, unfolding(sr_syntax::specs::Modules::module_item))]
-    pub(crate) fn module_item(&self, tokens: &mut Tokens<'_>) -> Result<Grown, Refusal>
+    pub fn module_item(&self, tokens: &mut Tokens<'_>) -> Result<Grown, Refusal>
         requires { Nests self.now.grammar.depth (F.pre self.now.grammar.tree) (F.post self.now.grammar.tree) }
         ensures { Reads (spec.module_item (grammar.tree self.now.grammar.depth) tokens.old) result tokens.new }
     {

@@ -74,7 +74,7 @@ impl<F: Fn(Global, &mut Tokens<'_>, usize, Goal) -> Result<Grown, Refusal>> Stat
             }
             Sort::Var => {
                 tokens.take();
-                self.declared_by(tokens, HeadKind::Var, from)
+                self.grammar.declared_by(tokens, HeadKind::Var, from)
             }
             Sort::Semicolon => {
                 tokens.take();
@@ -131,7 +131,7 @@ impl<F: Fn(Global, &mut Tokens<'_>, usize, Goal) -> Result<Grown, Refusal>> Stat
 
     /// A function, a declaration of `let` or `const`, or a statement (14).
     #[tactic(auto, unfolding(sr_syntax::specs::Statements::item))]
-    pub(crate) fn item(&self, tokens: &mut Tokens<'_>) -> Result<Grown, Refusal>
+    pub fn item(&self, tokens: &mut Tokens<'_>) -> Result<Grown, Refusal>
         requires { Nests self.now.grammar.depth (F.pre self.now.grammar.tree) (F.post self.now.grammar.tree) }
         ensures { Reads (spec.item (grammar.tree self.now.grammar.depth) tokens.old) result tokens.new }
     {
@@ -143,13 +143,13 @@ impl<F: Fn(Global, &mut Tokens<'_>, usize, Goal) -> Result<Grown, Refusal>> Stat
             }
             Sort::Let => {
                 tokens.take();
-                self.declared_by(tokens, HeadKind::Let, from)
+                self.grammar.declared_by(tokens, HeadKind::Let, from)
             }
             Sort::Const => {
                 tokens.take();
-                self.declared_by(tokens, HeadKind::Const, from)
+                self.grammar.declared_by(tokens, HeadKind::Const, from)
             }
-            _ => self.statement(tokens),
+            _ => self.grammar.nest(tokens, Goal::Statement),
         }
     }
 
@@ -160,8 +160,6 @@ impl<F: Fn(Global, &mut Tokens<'_>, usize, Goal) -> Result<Grown, Refusal>> Stat
     {
         match goal {
             Goal::Statement => self.statement(tokens),
-            Goal::Item => self.item(tokens),
-            Goal::ModuleItem => self.module_item(tokens),
             Goal::Assign => self.grammar.assign(tokens, true),
             Goal::AssignWithoutIn => self.grammar.assign(tokens, false),
             Goal::Power => self.grammar.power(tokens),

@@ -24,7 +24,7 @@ impl<F: Fn(Global, &mut Tokens<'_>, usize, Goal) -> Result<Grown, Refusal>> Stat
             if ends_clause(tokens.peek()) {
                 return Ok(found);
             }
-            found = with(found, self.grammar.nest(tokens, Goal::Item)?)?;
+            found = with(found, self.item(tokens)?)?;
         }
         Err(tokens.refuse())
     }

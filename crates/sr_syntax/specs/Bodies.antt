@@ -3,14 +3,18 @@ use Rattle.std.specs.Prelude.{ℕ, zero, suc, ◌+◌, Bool, not, ◌&&◌, ◌|
 use Rattle.sr_ast.specs.declared.tree.Node.TheVariants as n
 use Rattle.sr_ast.specs.declared.binding.Binding.{Binding}
 use Rattle.sr_ast.specs.declared.binding.Parameters.{Parameters}
+use Rattle.sr_ast.specs.declared.binding.HeadKind.TheVariants as head
+use Rattle.sr_syntax.specs.declared.sorts.Sort.{Sort}
 use Rattle.sr_syntax.specs.declared.sorts.Sort.TheVariants as k
 use Rattle.sr_syntax.specs.declared.grown.Grown.{Grown}
 use Rattle.sr_syntax.specs.declared.grown.Grove.{Grove}
+use Rattle.sr_syntax.specs.declared.grown.OpenFunction.{OpenFunction}
 use Rattle.sr_syntax.specs.declared.grown.Goal.{Goal}
 use Rattle.sr_syntax.specs.declared.grown.Goal.TheVariants as goal
 use Rattle.sr_syntax.specs.Sorts.{same_sort}
-use Rattle.sr_syntax.specs.Input.{Input, Parser, ◌>>=◌, ◌>>◌, pure, refuse, line_before, left, next, ahead, here, sees, eat, expect, complete}
+use Rattle.sr_syntax.specs.Input.{Input, Parser, ◌>>=◌, ◌>>◌, pure, refuse, line_before, left, next, ahead, peek, here, take_token, sees, eat, expect, complete}
 use Rattle.sr_syntax.specs.Operators.{name, none, with, assign_goal}
+use Rattle.sr_syntax.specs.Declarations.{declared_by}
 
 -- a name that is bound, with its place
 unfoldable pub binding : Parser Binding
@@ -80,17 +84,46 @@ arrow_parameters = λ i. if sees k.LeftParenthesis i then parameter_list i else 
 unfoldable pub begins_arrow : Input → Bool
 begins_arrow i = (sees k.Identifier i || sees k.LeftParenthesis i) && same_sort (ahead i) k.Arrow
 
+-- A function declaration up to the brace of its body, behind the first token, with the items before it (15.2).
+unfoldable pub opened : ℕ → Grove → Parser OpenFunction
+opened from before = do
+  called ← binding
+  ps ← parameter_list
+  expect k.LeftBrace
+  pure (record { from = from; name = called; parameters = ps; before = before })
+
+-- the items before a function declaration and it, behind its last brace
+unfoldable pub closed : OpenFunction → Grove → Parser Grove
+closed f all = do
+  x ← complete (n.FunctionDeclaration (Some f.name) f.parameters all.trees) f.from all.tall
+  pure (with f.before x)
+
 -- The parser of what is open while it is read, one level down.
 module _ (nest : Goal → Parser Grown) where
-  unfoldable pub items_from : ℕ → Grove → Parser Grove
-  items_from zero found = refuse
-  items_from (suc m) found = do
-    is_over ← eat k.RightBrace
-    if is_over then pure found else (do x ← nest goal.Item; items_from m (with found x))
+  -- the end of the innermost body: of the function that is open, or of all
+  abbrev pub ended : (List OpenFunction → Grove → Parser Grove) → List OpenFunction → Grove → Parser Grove
+  ended more [] found = pure found
+  ended more (f ∷ around) found = closed f found >>= (λ all. more around all)
+
+  -- by its first token, an item or the end of a body; of a function declaration, what stands before its items
+  abbrev pub items_by : (List OpenFunction → Grove → Parser Grove) → List OpenFunction → Grove → ℕ → Sort → Parser Grove
+  items_by more around found from k.RightBrace = take_token >> ended more around found
+  items_by more around found from k.Function = take_token >> opened from found >>= (λ f. more (f ∷ around) none)
+  items_by more around found from k.Let = take_token >> declared_by nest head.Let from >>= (λ x. more around (with found x))
+  items_by more around found from k.Const = take_token >> declared_by nest head.Const from >>= (λ x. more around (with found x))
+  items_by more around found from _ = nest goal.Statement >>= (λ x. more around (with found x))
+
+  -- The functions that are open are those in one another, the innermost first; what is found are the items of its body.
+  unfoldable pub items_from : ℕ → List OpenFunction → Grove → Parser Grove
+  items_from zero around found = refuse
+  items_from (suc m) around found = do
+    from ← here
+    s ← peek
+    items_by (items_from m) around found from s
 
   -- Item* "}"
   unfoldable pub items : Parser Grove
-  items = λ i. items_from (left i + 1) none i
+  items = λ i. items_from (left i + 1) [] none i
 
   -- Body = "{" Item* "}" (15.2)
   unfoldable pub body : Parser Grove

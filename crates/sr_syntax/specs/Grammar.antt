@@ -18,8 +18,6 @@ use Rattle.sr_syntax.specs.Modules.{module_item}
 module _ (nest : Goal → Parser Grown) where
   abbrev pub goal_by : Goal → Parser Grown
   goal_by goal.Statement = statement nest
-  goal_by goal.Item = item nest
-  goal_by goal.ModuleItem = module_item nest
   goal_by goal.Assign = assign nest true
   goal_by goal.AssignWithoutIn = assign nest false
   goal_by goal.Power = power nest
@@ -42,11 +40,11 @@ whole_expression = expression (tree max_open) true
 
 -- an item of a script
 unfoldable pub whole_item : Parser Grown
-whole_item = tree max_open goal.Item
+whole_item = item (tree max_open)
 
 -- an item of a module
 unfoldable pub whole_module_item : Parser Grown
-whole_module_item = tree max_open goal.ModuleItem
+whole_module_item = module_item (tree max_open)
 
 unfoldable pub script_from : ℕ → List Tree → Parser (List Tree)
 script_from zero found = refuse

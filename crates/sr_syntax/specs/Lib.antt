@@ -2,6 +2,7 @@ pub mod Sorts
 pub mod Lexemes
 pub mod Input
 pub mod Operators
+pub mod Declarations
 pub mod Bodies
 pub mod Objects
 pub mod Expressions

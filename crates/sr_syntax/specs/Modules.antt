@@ -14,8 +14,9 @@ use Rattle.sr_syntax.specs.declared.grown.Grown.{Grown}
 use Rattle.sr_syntax.specs.declared.grown.Goal.{Goal}
 use Rattle.sr_syntax.specs.declared.grown.Goal.TheVariants as goal
 use Rattle.sr_syntax.specs.Input.{Parser, ◌>>=◌, ◌>>◌, pure, refuse, left, peek, here, take_token, take_text, sees, sees_word, sees_text, eat, expect, expect_text, complete, semicolon, start}
+use Rattle.sr_syntax.specs.Declarations.{declared_by}
 use Rattle.sr_syntax.specs.Bodies.{binding, binding_if_there, declared_function, function_declaration}
-use Rattle.sr_syntax.specs.Statements.{declared_by, item}
+use Rattle.sr_syntax.specs.Statements.{item}
 
 -- the string literal that names a module
 unfoldable pub module_name : Parser (List ℕ)

@@ -1,14 +1,12 @@
 -- Statements, rule by rule (ECMA-262 14).
 use Rattle.std.specs.Prelude.{ℕ, zero, suc, ◌+◌, max, Bool, true, false, not, ◌&&◌, ◌||◌, if◌then◌else◌, List, [], ◌∷◌, ◌++◌, Option, Some, None, Ok, codes}
 use Rattle.sr_ast.specs.declared.tree.Tree.{Tree}
-use Rattle.sr_ast.specs.declared.tree.Node.{Node}
 use Rattle.sr_ast.specs.declared.tree.Node.TheVariants as n
 use Rattle.sr_ast.specs.declared.binding.Binding.{Binding}
 use Rattle.sr_ast.specs.declared.binding.HeadBinding.{HeadBinding}
 use Rattle.sr_ast.specs.declared.binding.HeadKind.{HeadKind}
 use Rattle.sr_ast.specs.declared.binding.HeadKind.TheVariants as head
-use Rattle.sr_ast.specs.declared.binding.LexicalKind.TheVariants as lexical
-use Rattle.sr_ast.specs.declared.tree.Declaration.{Declaration, roll-Declaration}
+use Rattle.sr_ast.specs.declared.tree.Declaration.{Declaration}
 use Rattle.sr_ast.specs.declared.tree.Case.{roll-Case}
 use Rattle.sr_syntax.specs.declared.grown.Part.{Part}
 use Rattle.sr_syntax.specs.declared.grown.Cases.{Cases}
@@ -20,15 +18,10 @@ use Rattle.sr_syntax.specs.declared.grown.Goal.{Goal}
 use Rattle.sr_syntax.specs.declared.grown.Goal.TheVariants as goal
 use Rattle.sr_syntax.specs.Sorts.{same_sort}
 use Rattle.sr_syntax.specs.Input.{Input, Parser, ◌>>=◌, ◌>>◌, pure, refuse, line_before, left, ahead, peek, here, take_token, take_text, sees, sees_text, eat, expect, complete, semicolon, start}
-use Rattle.sr_syntax.specs.Operators.{from_of, is_target, tallest, none, with, nothing, part_of, name, statement_node, assign_goal}
+use Rattle.sr_syntax.specs.Operators.{from_of, is_target, tallest, none, with, nothing, part_of, statement_node}
+use Rattle.sr_syntax.specs.Declarations.{declaring, declared, declarations_behind, declared_by}
 use Rattle.sr_syntax.specs.Bodies.{binding, one_parameter, block, function_declaration}
 use Rattle.sr_syntax.specs.Expressions.{expression}
-
--- the declarations of `var`, `let` and `const`
-abbrev pub declaring : HeadKind → List Declaration → Node
-declaring head.Var ds = n.Var ds
-declaring head.Let ds = n.Lexical lexical.Let ds
-declaring head.Const ds = n.Lexical lexical.Const ds
 
 abbrev pub no_cases : Cases
 no_cases = record { items = []; tall = 0; has_default = false }
@@ -124,48 +117,11 @@ module _ (nest : Goal → Parser Grown) where
     body ← nest goal.Statement
     complete (n.While x.tree body.tree) from (max x.height body.height)
 
-  -- a value of a declared name, and its depth (14.3)
-  unfoldable pub declared : Bool → ℕ → List ℕ → Parser (Declaration × ℕ)
-  declared has_in from called = do
-    is_given ← eat k.Assign
-    if is_given
-        then (do x ← nest (assign_goal has_in); pure (roll-Declaration (record { name = called; from = from; value = Some x.tree }), x.height))
-        else pure (roll-Declaration (record { name = called; from = from; value = None }), 0)
-
-  -- Decl = Name ["=" Assign]
-  unfoldable pub declaration : Bool → Parser (Declaration × ℕ)
-  declaration has_in = do
-    from ← here
-    called ← name
-    declared has_in from called
-
-  unfoldable pub declarations_from : Bool → ℕ → List Declaration → ℕ → Parser (List Declaration × ℕ)
-  declarations_from has_in zero found tall = refuse
-  declarations_from has_in (suc m) found tall = do
-    x ← declaration has_in
-    more ← eat k.Comma
-    if more then declarations_from has_in m (found ++ x.0 ∷ []) (max tall x.1) else pure (found ++ x.0 ∷ [], max tall x.1)
-
-  -- Decl ("," Decl)*, behind those that are found
-  unfoldable pub declarations_behind : Bool → List Declaration → ℕ → Parser (List Declaration × ℕ)
-  declarations_behind has_in found tall = λ i. declarations_from has_in (left i + 1) found tall i
-
-  -- Decl ("," Decl)*
-  unfoldable pub declarations : Bool → Parser (List Declaration × ℕ)
-  declarations has_in = declarations_behind has_in [] 0
-
   -- ("," Decl)* in the head of a `for`, behind a first one with a value of this depth
   unfoldable pub more_declarations : Declaration → ℕ → Parser (List Declaration × ℕ)
   more_declarations first tall = do
     more ← eat k.Comma
-    if more then declarations_behind false (first ∷ []) tall else pure (first ∷ [], tall)
-
-  -- "var" or "let" or "const", declarations and a semicolon, behind the first token (14.3)
-  unfoldable pub declared_by : HeadKind → ℕ → Parser Grown
-  declared_by how from = do
-    all ← declarations true
-    semicolon
-    complete (declaring how all.0) from all.1
+    if more then declarations_behind nest false (first ∷ []) tall else pure (first ∷ [], tall)
 
   -- an expression, or none, up to this token and with it
   unfoldable pub perhaps : Bool → Sort → Parser Part
@@ -235,7 +191,7 @@ module _ (nest : Goal → Parser Grown) where
   -- the declarations at first in the head of a `for`, behind the first name; their semicolon is not inserted
   unfoldable pub for_declarations : ℕ → HeadBinding → Parser Grown
   for_declarations start h = do
-    first ← declared false h.binding.from h.binding.name
+    first ← declared nest false h.binding.from h.binding.name
     all ← more_declarations first.0 first.1
     expect k.Semicolon
     complete (declaring h.kind all.0) start all.1
@@ -292,11 +248,24 @@ module _ (nest : Goal → Parser Grown) where
       if line_before i then refuse i
       else (do x ← expression nest true; semicolon; complete (n.Throw x.tree) from x.height) i
 
+  abbrev pub item_by : ℕ → Sort → Parser Grown
+  item_by from k.Function = take_token >> function_declaration nest from
+  item_by from k.Let = take_token >> declared_by nest head.Let from
+  item_by from k.Const = take_token >> declared_by nest head.Const from
+  item_by from _ = nest goal.Statement
+
+  -- Item = Function | Lexical | Statement (14)
+  unfoldable pub item : Parser Grown
+  item = do
+    from ← here
+    s ← peek
+    item_by from s
+
   unfoldable pub clause_from : ℕ → Grove → Parser Grove
   clause_from zero found = refuse
   clause_from (suc m) found = do
     s ← peek
-    if ends_clause s then pure found else (do x ← nest goal.Item; clause_from m (with found x))
+    if ends_clause s then pure found else (do x ← item; clause_from m (with found x))
 
   -- Item* of a clause of `switch`, up to the next clause or the brace
   unfoldable pub clause_items : Parser Grove
@@ -399,7 +368,7 @@ module _ (nest : Goal → Parser Grown) where
 
   abbrev pub statement_by : ℕ → Sort → Parser Grown
   statement_by from k.LeftBrace = take_token >> block nest from
-  statement_by from k.Var = take_token >> declared_by head.Var from
+  statement_by from k.Var = take_token >> declared_by nest head.Var from
   statement_by from k.Semicolon = take_token >> complete n.Empty from 0
   statement_by from k.If = take_token >> if_ from
   statement_by from k.Do = take_token >> do_ from
@@ -421,16 +390,3 @@ module _ (nest : Goal → Parser Grown) where
     from ← here
     s ← peek
     statement_by from s
-
-  abbrev pub item_by : ℕ → Sort → Parser Grown
-  item_by from k.Function = take_token >> function_declaration nest from
-  item_by from k.Let = take_token >> declared_by head.Let from
-  item_by from k.Const = take_token >> declared_by head.Const from
-  item_by from _ = statement
-
-  -- Item = Function | Lexical | Statement (14)
-  unfoldable pub item : Parser Grown
-  item = do
-    from ← here
-    s ← peek
-    item_by from s

@@ -2,6 +2,7 @@ ghost use Rattle.std.specs.Prelude.{◌≡◌};
 ghost use Rattle.sr_syntax.specs.Input.{Reads};
 ghost use Rattle.sr_syntax.specs.Bodies as spec;
 
+use crate::grown::{Grove, OpenFunction};
 use crate::names::binding;
 use crate::refusal::Refusal;
 use crate::sorts::{Sort, same_sort};
@@ -110,4 +111,25 @@ pub fn begins_arrow(tokens: &Tokens<'_>) -> bool
 {
     (tokens.sees(Sort::Identifier) || tokens.sees(Sort::LeftParenthesis))
         && same_sort(tokens.ahead(), Sort::Arrow)
+}
+
+/// A function declaration up to the brace of its body, behind `function`, with the items before it (15.2).
+#[tactic(auto, unfolding(crate::specs::Bodies::opened))]
+pub fn opened(
+    alloc: Global,
+    tokens: &mut Tokens<'_>,
+    from: usize,
+    before: Grove,
+) -> Result<OpenFunction, Refusal>
+    ensures { Reads (spec.opened from before tokens.old) result tokens.new }
+{
+    let name = binding(alloc, tokens)?;
+    let parameters = parameter_list(alloc, tokens)?;
+    tokens.expect(Sort::LeftBrace)?;
+    Ok(OpenFunction {
+        from,
+        name,
+        parameters,
+        before,
+    })
 }

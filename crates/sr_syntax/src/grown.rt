@@ -2,7 +2,7 @@ ghost use Rattle.std.specs.Prelude.{◌≡◌, IfOk};
 ghost use Rattle.sr_syntax.specs.Operators as spec;
 
 use sqlite_items::Items;
-use sr_ast::{Case, Element, Property, Tree};
+use sr_ast::{Binding, Case, Element, Parameters, Property, Tree};
 use sr_shared::Shared;
 use sr_text::Str;
 use std::alloc::{AllocError, Global};
@@ -23,6 +23,19 @@ pub struct Grove {
     pub trees: Items<Shared<Tree>>,
     /// The greatest depth among them.
     pub tall: usize,
+}
+
+/// A function declaration while its body is read (ECMA-262 15.2).
+#[derive(Drop)]
+pub struct OpenFunction {
+    /// The place of its first token, in units of the text.
+    pub from: usize,
+    /// Its name.
+    pub name: Binding,
+    /// Its parameters.
+    pub parameters: Parameters,
+    /// The items that stand before it in the same body.
+    pub before: Grove,
 }
 
 /// What stands between commas, in order.
@@ -88,10 +101,6 @@ pub struct Part {
 pub enum Goal {
     /// A statement.
     Statement,
-    /// A statement or a declaration.
-    Item,
-    /// The same, or an import or an export.
-    ModuleItem,
     /// An assignment or a looser operator's operand.
     Assign,
     /// The same, with no `in` outside of brackets.

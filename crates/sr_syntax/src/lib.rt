@@ -2,7 +2,7 @@
 //! definition stands in `specs/` (ECMA-262 13, 14).
 #![tactic(auto)]
 
-/// Parameters, and where arrow functions begin.
+/// Parameters, what stands before the body of a function, and where arrow functions begin.
 pub mod bodies;
 /// What rules give.
 pub mod grown;
@@ -23,4 +23,4 @@ pub mod sorts;
 /// A cursor over the tokens.
 pub mod tokens;
 /// Words and punctuators.
-mod words;
+pub mod words;

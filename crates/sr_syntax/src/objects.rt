@@ -6,9 +6,9 @@ use crate::grown::{Accessor, Properties};
 use crate::refusal::Refusal;
 use crate::sorts::Sort;
 use crate::tokens::Tokens;
-use crate::words::is;
 use sqlite_items::Items;
 use sr_ast::{Property, PropertyName};
+use sr_text::spells;
 use std::alloc::{AllocError, Global};
 
 /// Whether a key is `__proto__`, which before a `:` is no key of the grammar (ECMA-262 B.3.1).
@@ -16,7 +16,7 @@ pub fn is_proto(called: &PropertyName) -> bool
     ensures { result ≡ spec.is_proto called.now }
 {
     match called {
-        PropertyName::Text(text) => is(text.units(), b"__proto__"),
+        PropertyName::Text(text) => spells(text.units(), b"__proto__"),
         PropertyName::Number(_) => false,
     }
 }

@@ -5,9 +5,8 @@ ghost use Rattle.sr_syntax.specs.Input.{Reads};
 
 use crate::refusal::Refusal;
 use crate::sorts::{Content, Lexeme, Sort, same_sort};
-use crate::words::is;
 use sr_num::Num;
-use sr_text::{Str, TextRefusal};
+use sr_text::{Str, TextRefusal, spells};
 use std::alloc::{AllocError, Global};
 use std::marker::Model;
 
@@ -237,10 +236,10 @@ impl<'a> Tokens<'a> {
         ensures { result ≡ bytes_eq (spec.text_of (spec.content_at self.now.rest)) word.now }
     {
         match self.rest {
-            [] => is(&[], word),
+            [] => spells(&[], word),
             [token, ..] => match &token.content {
-                Content::Name(text) | Content::Text(text) => is(text.units(), word),
-                Content::Number(_) | Content::Nothing => is(&[], word),
+                Content::Name(text) | Content::Text(text) => spells(text.units(), word),
+                Content::Number(_) | Content::Nothing => spells(&[], word),
             },
         }
     }

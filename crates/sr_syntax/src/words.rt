@@ -5,6 +5,7 @@ ghost use Rattle.sr_syntax.specs.Sorts as spec;
 
 use crate::sorts::Sort;
 use sr_lex::TokenKind;
+use sr_text::spells;
 
 /// A backquote.
 const BACKQUOTE: u16 = 0x60;
@@ -114,28 +115,12 @@ const PUNCTUATORS: [(&[u8], Sort); 57] = [
     (b"??=", Sort::AssignCoalesce),
 ];
 
-/// Whether the units are these characters.
-pub(crate) fn is(units: &[u16], text: &[u8]) -> bool
-    ensures { result ≡ bytes_eq units.now text.now }
-{
-    match units {
-        [] => match text {
-            [] => true,
-            [_, ..] => false,
-        },
-        [unit, units @ ..] => match text {
-            [] => false,
-            [byte, bytes @ ..] => *unit == u16::from(*byte) && is(units, bytes),
-        },
-    }
-}
-
 /// The sort that a table gives a text, or another one where it has no such text.
 fn find(table: &[(&[u8], Sort)], other: Sort, units: &[u16]) -> Sort
     ensures { result ≡ spec.find (spec.table_of table.now) other units.now }
 {
     for (text, sort) in table {
-        if is(units, text) {
+        if spells(units, text) {
             return *sort;
         }
     }

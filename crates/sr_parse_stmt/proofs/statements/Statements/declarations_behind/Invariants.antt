@@ -1,7 +1,0 @@
-use Rattle.std.proofs.Common.{◌≡◌, ◌-◌}
-use Rattle.sr_syntax.specs.Grammar.{tree}
-use Rattle.sr_syntax.specs.Statements.{declarations_behind, declarations_from}
-use Rattle.sr_parse_stmt.proofs.statements.Statements.declarations_behind.Given as goal
-
-abbrev pub invariant-loop-turn : goal.invariant-loop-turn
-invariant-loop-turn g l = declarations_behind (tree l.self.grammar.depth) l.has_in l.fn.found l.fn.tall l.fn.tokens ≡ declarations_from (tree l.self.grammar.depth) l.has_in (l._turn-end - l._turn) l.found l.tall l.tokens
