@@ -1,7 +1,8 @@
 -- Bodies, functions and object literals are read alike where the rules below them are.
-use Rattle.std.proofs.Common.{◌≡◌, ℕ, zero, suc, max, Bool, true, List, [], Option, None, Some, refl, not, ◌&&◌, ◌||◌}
+use Rattle.std.proofs.Common.{◌≡◌, ℕ, zero, suc, max, Bool, true, List, [], ◌∷◌, Option, None, Some, refl, not, ◌&&◌, ◌||◌}
 use Rattle.sr_ast.specs.declared.binding.Binding.{Binding}
 use Rattle.sr_ast.specs.declared.binding.Parameters.{Parameters}
+use Rattle.sr_ast.specs.declared.binding.HeadKind.TheVariants as head
 use Rattle.sr_ast.specs.declared.binding.PropertyName.{PropertyName}
 use Rattle.sr_ast.specs.declared.binding.PropertyName.TheVariants as property_name
 use Rattle.sr_ast.specs.declared.tree.Node.TheVariants as node
@@ -14,24 +15,17 @@ use Rattle.sr_syntax.specs.declared.grown.Goal.{Goal}
 use Rattle.sr_syntax.specs.declared.grown.Goal.TheVariants as goal
 use Rattle.sr_syntax.specs.declared.grown.Grown.{Grown}
 use Rattle.sr_syntax.specs.declared.grown.Grove.{Grove}
+use Rattle.sr_syntax.specs.declared.grown.OpenFunction.{OpenFunction}
 use Rattle.sr_syntax.specs.declared.grown.Properties.{Properties}
 use Rattle.sr_syntax.specs.Sorts.{same_sort}
 use Rattle.sr_syntax.specs.Input.{Parser, sort, sees, sees_word, sees_text}
-use Rattle.sr_syntax.specs.Operators.{none, with, assign_goal}
-use Rattle.sr_syntax.specs.Bodies.{items_from, items, body, block, function_of, function_, declared_function, function_declaration, arrow_body, arrow_end, arrow}
+use Rattle.sr_syntax.specs.Operators.{none, with}
+use Rattle.sr_syntax.specs.Bodies.{opened, closed, ended, items_by, items_from, items, body, block, function_of, function_, declared_function, function_declaration, arrow_body, arrow_end, arrow}
 use Rattle.sr_syntax.specs.Objects.{is_proto, no_properties, with_property, sees_key, accessor_word, value_of_key, method, keyed, named_property, computed_value, computed_method, computed_end, computed, getter, setter, accessor_of, accessor_or_name, spread_property, plain_by, plain_property, property_by, one_property, properties_from, properties, object}
 use Rattle.sr_grammar.proofs.Steps.{inp}
-use Rattle.sr_grammar.proofs.Alike.{Level, Front, Takes, Plain, level_of, level_then, front_then, end_then, level_pure, takes_refuse, level_turns, level_if, level_choose, front_look, end_look, front_peek, end_peek, takes_here, front_here, plain_sees, level_eat, level_expect, level_token, front_token, level_complete}
+use Rattle.sr_grammar.proofs.Alike.{Level, Front, Takes, Plain, level_of, level_then, front_then, end_then, level_pure, takes_refuse, level_turns, level_if, level_choose, front_look, end_look, front_peek, end_peek, takes_by_first, takes_here, front_here, plain_sees, level_eat, level_expect, level_token, front_token, level_complete}
+use Rattle.sr_grammar.proofs.AlikeDeclarations.{Rules, level_declared_by}
 use Rattle.sr_grammar.proofs.AlikeNames.{front_text, level_binding, level_binding_if_there, level_parameter_list, level_no_parameters, level_one_parameter, level_arrow_token, takes_arrow_parameters, takes_key, level_shorthand}
-
--- the rules one level down
-pub record Rules (less more : Goal → Parser Grown) : Type 0 where
-  pub assign : (b : Bool) → Takes (less (assign_goal b)) (more (assign_goal b))
-  pub power : Takes (less goal.Power) (more goal.Power)
-  pub unary : Takes (less goal.Unary) (more goal.Unary)
-  pub new : Takes (less goal.New) (more goal.New)
-  pub statement : Takes (less goal.Statement) (more goal.Statement)
-  pub item : Takes (less goal.Item) (more goal.Item)
 
 plain_colon : (b : Bool) → Plain (λ i. sees k.Colon i && b)
 unfolding sees sort
@@ -59,15 +53,35 @@ module _ (less more : Goal → Parser Grown) (rules : Rules less more) where
 
   -- ---- bodies
 
-  level_items_from : (m : ℕ) (found : Grove) → Level (items_from less m found) (items_from more m found)
+  level_ended : {f g : List OpenFunction → Grove → Parser Grove} → ((outer : List OpenFunction) (found : Grove) → Level (f outer found) (g outer found)) → (outer : List OpenFunction) (found : Grove)
+      → Level (ended less f outer found) (ended more g outer found)
+  unfolding closed
+  level_ended h [] found = level_pure found
+  level_ended h (f ∷ outer) found = level_then (level_then (level_complete (node.FunctionDeclaration (Some f.name) f.parameters found.trees) f.from found.tall) (λ x. level_pure (with f.before x))) (λ all. h outer all)
+
+  level_opened : (from : ℕ) (before : Grove) → Level (opened from before) (opened from before)
+  unfolding opened
+  level_opened from before = level_then level_binding (λ called. level_then level_parameter_list (λ ps. level_then (level_expect k.LeftBrace) (λ u.
+      level_pure (record { from = from; name = called; parameters = ps; before = before }))))
+
+  front_items_by : {f g : List OpenFunction → Grove → Parser Grove} → ((outer : List OpenFunction) (found : Grove) → Level (f outer found) (g outer found)) → (outer : List OpenFunction) (found : Grove) (from : ℕ) (s : Sort)
+      → Front (items_by less f outer found from s) (items_by more g outer found from s)
+  front_items_by h outer found from k.RightBrace = front_then front_token (λ u. level_ended h outer found)
+  front_items_by h outer found from k.Function = front_then (front_then front_token (λ u. level_opened from found)) (λ f. h (f ∷ outer) none)
+  front_items_by h outer found from k.Let = front_then (front_then front_token (λ u. level_declared_by less more rules head.Let from)) (λ x. h outer (with found x))
+  front_items_by h outer found from k.Const = front_then (front_then front_token (λ u. level_declared_by less more rules head.Const from)) (λ x. h outer (with found x))
+  front_items_by h outer found from _ = front_then rules.statement.first (λ x. h outer (with found x))
+
+  -- at the end an item would be a statement
+  takes_items_from : (m : ℕ) (outer : List OpenFunction) (found : Grove) → Takes (items_from less m outer found) (items_from more m outer found)
   unfolding items_from
-  level_items_from zero found = level_of takes_refuse
-  level_items_from (suc m) found = level_then (level_eat k.RightBrace) (λ over. level_if over (level_pure found)
-      (level_then (level_of rules.item) (λ x. level_items_from m (with found x))))
+  takes_items_from zero outer found = takes_refuse
+  takes_items_from (suc m) outer found = takes_by_first (front_items_by (λ outer found. level_of (takes_items_from m outer found)) outer found)
+      (λ from to. end_then (λ x. items_from less m outer (with found x)) (λ x. items_from more m outer (with found x)) rules.statement.ended)
 
   level_items : Level (items less) (items more)
   unfolding items
-  level_items = level_turns (λ m. items_from less m none) (λ m. items_from more m none) (λ m. level_items_from m none)
+  level_items = level_turns (λ m. items_from less m [] none) (λ m. items_from more m [] none) (λ m. level_of (takes_items_from m [] none))
 
   level_body : Level (body less) (body more)
   unfolding body

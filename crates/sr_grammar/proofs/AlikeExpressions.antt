@@ -24,7 +24,8 @@ use Rattle.sr_syntax.specs.Expressions.{sequence_from, sequence, expression, par
 use Rattle.sr_grammar.proofs.Steps.{inp}
 use Rattle.sr_grammar.proofs.Alike.{Level, Front, Takes, Plain, level_of, level_then, front_then, end_then, takes_then, level_pure, takes_refuse, level_left, level_turns, level_if, front_if, level_look, takes_choose, front_peek, end_peek, level_peek, takes_here, takes_by_first, level_eat, takes_expect, level_expect, level_token, front_token, level_complete}
 use Rattle.sr_grammar.proofs.AlikeNames.{front_text, level_text, front_number, level_joined, level_row_of, front_plain_template, level_member}
-use Rattle.sr_grammar.proofs.AlikeBodies.{Rules, level_function, front_arrow, level_object}
+use Rattle.sr_grammar.proofs.AlikeDeclarations.{Rules}
+use Rattle.sr_grammar.proofs.AlikeBodies.{level_function, front_arrow, level_object}
 
 plain_steps : (x : Grown) → Plain (steps x)
 unfolding steps sort line_before

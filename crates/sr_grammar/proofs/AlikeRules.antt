@@ -4,12 +4,12 @@ use Rattle.sr_syntax.specs.declared.grown.Goal.{Goal}
 use Rattle.sr_syntax.specs.declared.grown.Goal.TheVariants as goal
 use Rattle.sr_syntax.specs.Operators.{assign_goal}
 use Rattle.sr_syntax.specs.Expressions.{expression, assign}
-use Rattle.sr_syntax.specs.Statements.{declarations}
+use Rattle.sr_syntax.specs.Declarations.{declarations}
 use Rattle.sr_syntax.specs.Grammar.{tree}
 use Rattle.sr_grammar.proofs.Alike.{deep, deep_there, Takes, Front}
-use Rattle.sr_grammar.proofs.AlikeBodies.{Rules}
+use Rattle.sr_grammar.proofs.AlikeDeclarations.{Rules, takes_declarations}
 use Rattle.sr_grammar.proofs.AlikeExpressions.{takes_expression, takes_assign, takes_power, takes_unary, takes_new}
-use Rattle.sr_grammar.proofs.AlikeStatements.{takes_declarations, takes_statement, takes_item}
+use Rattle.sr_grammar.proofs.AlikeStatements.{takes_statement}
 
 nothing_open : (e : ℕ) (g : Goal) → Takes (tree 0 g) (tree e g)
 unfolding tree
@@ -29,7 +29,6 @@ module _ (d e : ℕ) (rules : Rules (tree d) (tree e)) where
     unary = takes_unary (tree d) (tree e) rules;
     new = takes_new (tree d) (tree e) rules;
     statement = takes_statement (tree d) (tree e) rules;
-    item = takes_item (tree d) (tree e) rules;
   }
 
 pub rules_alike : (d e : ℕ) → d ≤ e → Rules (tree d) (tree e)
@@ -39,7 +38,6 @@ rules_alike zero e far = record {
   unary = nothing_open e goal.Unary;
   new = nothing_open e goal.New;
   statement = nothing_open e goal.Statement;
-  item = nothing_open e goal.Item;
 }
 rules_alike (suc d) zero far = absurd (omega (arith, far))
 rules_alike (suc d) (suc e) far = one_more d e (rules_alike d e (omega (arith, far)))

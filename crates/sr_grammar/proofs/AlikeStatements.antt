@@ -1,10 +1,10 @@
 -- Statements and items are read alike where the rules below them are.
-use Rattle.std.proofs.Common.{◌≡◌, ℕ, zero, suc, max, Bool, true, false, List, [], ◌∷◌, ◌++◌, Option, None, Some, refl, ◌&&◌, codes}
+use Rattle.std.proofs.Common.{◌≡◌, ℕ, zero, suc, max, Bool, true, false, [], ◌∷◌, Option, None, Some, refl, ◌&&◌, codes}
 use Rattle.sr_ast.specs.declared.binding.Binding.{Binding}
 use Rattle.sr_ast.specs.declared.binding.HeadBinding.{HeadBinding}
 use Rattle.sr_ast.specs.declared.binding.HeadKind.{HeadKind}
 use Rattle.sr_ast.specs.declared.binding.HeadKind.TheVariants as head
-use Rattle.sr_ast.specs.declared.tree.Declaration.{Declaration, roll-Declaration}
+use Rattle.sr_ast.specs.declared.tree.Declaration.{Declaration}
 use Rattle.sr_ast.specs.declared.tree.Node.TheVariants as node
 use Rattle.sr_syntax.specs.declared.sorts.Sort.{Sort}
 use Rattle.sr_syntax.specs.declared.sorts.Sort.TheVariants as k
@@ -19,11 +19,13 @@ use Rattle.sr_syntax.specs.Input.{Input, Parser, ◌>>◌, sort, ahead, sees, se
 use Rattle.sr_syntax.specs.Operators.{from_of, is_target, tallest, none, with, nothing, part_of, statement_node}
 use Rattle.sr_syntax.specs.Bodies.{block}
 use Rattle.sr_syntax.specs.Expressions.{expression}
-use Rattle.sr_syntax.specs.Statements.{declaring, no_cases, with_case, with_default, ends_clause, ends_statement, condition, if_else, if_, do_while, do_, while_, declared, declaration, declarations_from, declarations_behind, declarations, more_declarations, declared_by, perhaps, for_body, for_rest, keys_of, values_of, for_in, for_of, for_in_target, for_of_target, for_declarations, for_declared, for_named, for_declaring, for_expression, for_by, for_, return_, throw_, clause_from, clause_items, clause, case_, default_, cases_by, cases_from, cases, switch_, inner_block, finally_, catch_end, catch_, try_, labelled, plain, begins_label, plain_or_labelled, statement_by, statement, item_by, item}
+use Rattle.sr_syntax.specs.Declarations.{declaring}
+use Rattle.sr_syntax.specs.Statements.{no_cases, with_case, with_default, ends_clause, ends_statement, condition, if_else, if_, do_while, do_, while_, more_declarations, perhaps, for_body, for_rest, keys_of, values_of, for_in, for_of, for_in_target, for_of_target, for_declarations, for_declared, for_named, for_declaring, for_expression, for_by, for_, return_, throw_, clause_from, clause_items, clause, case_, default_, cases_by, cases_from, cases, switch_, inner_block, finally_, catch_end, catch_, try_, labelled, plain, begins_label, plain_or_labelled, statement_by, statement, item_by, item}
 use Rattle.sr_grammar.proofs.Steps.{inp}
-use Rattle.sr_grammar.proofs.Alike.{Level, Front, Takes, Plain, level_of, level_then, front_then, end_then, takes_then, level_pure, takes_refuse, level_turns, takes_turns, level_if, level_choose, front_choose, end_choose, level_peek, takes_here, takes_by_first, plain_sees, plain_line, level_eat, takes_expect, level_expect, level_token, front_token, level_semicolon, level_complete}
-use Rattle.sr_grammar.proofs.AlikeNames.{front_text, takes_name, level_binding, level_catch_parameter, level_continue, level_break, level_debugger}
-use Rattle.sr_grammar.proofs.AlikeBodies.{Rules, level_block, level_function_declaration}
+use Rattle.sr_grammar.proofs.Alike.{Level, Front, Takes, Plain, level_of, level_then, front_then, end_then, level_pure, takes_refuse, level_turns, level_if, level_choose, front_choose, end_choose, level_peek, takes_here, takes_by_first, plain_sees, plain_line, level_eat, takes_expect, level_expect, level_token, front_token, level_semicolon, level_complete}
+use Rattle.sr_grammar.proofs.AlikeNames.{front_text, level_binding, level_catch_parameter, level_continue, level_break, level_debugger}
+use Rattle.sr_grammar.proofs.AlikeDeclarations.{Rules, level_declared, takes_declarations_behind, level_declared_by}
+use Rattle.sr_grammar.proofs.AlikeBodies.{level_block, level_function_declaration}
 use Rattle.sr_grammar.proofs.AlikeExpressions.{takes_expression}
 
 plain_of : Plain (λ i. sees_text (codes "of") i)
@@ -91,40 +93,10 @@ module _ (less more : Goal → Parser Grown) (rules : Rules less more) where
 
   -- ---- declarations
 
-  level_declared : (b : Bool) (from : ℕ) (called : List ℕ) → Level (declared less b from called) (declared more b from called)
-  unfolding declared
-  level_declared b from called = level_then (level_eat k.Assign) (λ given. level_if given
-      (level_then (level_of (rules.assign b)) (λ x. level_pure (roll-Declaration (record { name = called; from = from; value = Some x.tree }), x.height)))
-      (level_pure (roll-Declaration (record { name = called; from = from; value = None }), 0)))
-
-  takes_declaration : (b : Bool) → Takes (declaration less b) (declaration more b)
-  unfolding declaration
-  takes_declaration b = takes_here (λ from. front_then takes_name.first (λ called. level_declared b from called))
-      (λ from to. end_then (declared less b from) (declared more b to) takes_name.ended)
-
-  takes_declarations_from : (b : Bool) (m : ℕ) (found : List Declaration) (tall : ℕ) → Takes (declarations_from less b m found tall) (declarations_from more b m found tall)
-  unfolding declarations_from
-  takes_declarations_from b zero found tall = takes_refuse
-  takes_declarations_from b (suc m) found tall = takes_then (takes_declaration b) (λ x. level_then (level_eat k.Comma) (λ again. level_if again
-      (level_of (takes_declarations_from b m (found ++ x.0 ∷ []) (max tall x.1))) (level_pure (found ++ x.0 ∷ [], max tall x.1))))
-
-  takes_declarations_behind : (b : Bool) (found : List Declaration) (tall : ℕ) → Takes (declarations_behind less b found tall) (declarations_behind more b found tall)
-  unfolding declarations_behind
-  takes_declarations_behind b found tall =
-      takes_turns (λ m. declarations_from less b m found tall) (λ m. declarations_from more b m found tall) (λ m. takes_declarations_from b m found tall)
-
-  pub takes_declarations : (b : Bool) → Takes (declarations less b) (declarations more b)
-  unfolding declarations
-  takes_declarations b = takes_declarations_behind b [] 0
-
   level_more_declarations : (first : Declaration) (tall : ℕ) → Level (more_declarations less first tall) (more_declarations more first tall)
   unfolding more_declarations
   level_more_declarations first tall = level_then (level_eat k.Comma) (λ again. level_if again
-      (level_of (takes_declarations_behind false (first ∷ []) tall)) (level_pure (first ∷ [], tall)))
-
-  pub level_declared_by : (how : HeadKind) (from : ℕ) → Level (declared_by less how from) (declared_by more how from)
-  unfolding declared_by
-  level_declared_by how from = level_then (level_of (takes_declarations true)) (λ all. level_then level_semicolon (λ u. level_complete (declaring how all.0) from all.1))
+      (level_of (takes_declarations_behind less more rules false (first ∷ []) tall)) (level_pure (first ∷ [], tall)))
 
   -- ---- `for`
 
@@ -172,7 +144,7 @@ module _ (less more : Goal → Parser Grown) (rules : Rules less more) where
 
   level_for_declarations : (start : ℕ) (h : HeadBinding) → Level (for_declarations less start h) (for_declarations more start h)
   unfolding for_declarations
-  level_for_declarations start h = level_then (level_declared false h.binding.from h.binding.name) (λ first.
+  level_for_declarations start h = level_then (level_declared less more rules false h.binding.from h.binding.name) (λ first.
       level_then (level_more_declarations first.0 first.1) (λ all. level_then (level_expect k.Semicolon) (λ u. level_complete (declaring h.kind all.0) start all.1)))
 
   level_for_declared : (from start : ℕ) (h : HeadBinding) → Level (for_declared less from start h) (for_declared more from start h)
@@ -218,13 +190,25 @@ module _ (less more : Goal → Parser Grown) (rules : Rules less more) where
   level_throw from = level_choose line_before plain_line (level_of takes_refuse)
       (level_then (level_expression true) (λ x. level_then level_semicolon (λ u. level_complete (node.Throw x.tree) from x.height)))
 
+  -- ---- items
+
+  front_item_by : (from : ℕ) (s : Sort) → Front (item_by less from s) (item_by more from s)
+  front_item_by from k.Function = front_then front_token (λ u. level_function_declaration less more rules from)
+  front_item_by from k.Let = front_then front_token (λ u. level_declared_by less more rules head.Let from)
+  front_item_by from k.Const = front_then front_token (λ u. level_declared_by less more rules head.Const from)
+  front_item_by from _ = rules.statement.first
+
+  pub takes_item : Takes (item less) (item more)
+  unfolding item
+  takes_item = takes_by_first front_item_by (λ from to. rules.statement.ended)
+
   -- ---- `switch`
 
   level_clause_from : (m : ℕ) (found : Grove) → Level (clause_from less m found) (clause_from more m found)
   unfolding clause_from
   level_clause_from zero found = level_of takes_refuse
   level_clause_from (suc m) found = level_then level_peek (λ s. level_if (ends_clause s) (level_pure found)
-      (level_then (level_of rules.item) (λ x. level_clause_from m (with found x))))
+      (level_then (level_of takes_item) (λ x. level_clause_from m (with found x))))
 
   level_clause_items : Level (clause_items less) (clause_items more)
   unfolding clause_items
@@ -306,7 +290,7 @@ module _ (less more : Goal → Parser Grown) (rules : Rules less more) where
 
   front_statement_by : (from : ℕ) (s : Sort) → Front (statement_by less from s) (statement_by more from s)
   front_statement_by from k.LeftBrace = front_then front_token (λ u. level_block less more rules from)
-  front_statement_by from k.Var = front_then front_token (λ u. level_declared_by head.Var from)
+  front_statement_by from k.Var = front_then front_token (λ u. level_declared_by less more rules head.Var from)
   front_statement_by from k.Semicolon = front_then front_token (λ u. level_complete node.Empty from 0)
   front_statement_by from k.If = front_then front_token (λ u. level_if_statement from)
   front_statement_by from k.Do = front_then front_token (λ u. level_do from)
@@ -330,13 +314,3 @@ module _ (less more : Goal → Parser Grown) (rules : Rules less more) where
     where
       finish : ℕ → Grown → Parser Grown
       finish from x = semicolon >> complete (statement_node from x) (from_of x) x.height
-
-  front_item_by : (from : ℕ) (s : Sort) → Front (item_by less from s) (item_by more from s)
-  front_item_by from k.Function = front_then front_token (λ u. level_function_declaration less more rules from)
-  front_item_by from k.Let = front_then front_token (λ u. level_declared_by head.Let from)
-  front_item_by from k.Const = front_then front_token (λ u. level_declared_by head.Const from)
-  front_item_by from _ = takes_statement.first
-
-  pub takes_item : Takes (item less) (item more)
-  unfolding item
-  takes_item = takes_by_first front_item_by (λ from to. takes_statement.ended)

@@ -23,7 +23,8 @@ use Rattle.sr_grammar.proofs.Beginnings.{Begun, begun_more, Of, carry, onward, b
 use Rattle.sr_grammar.proofs.Peeks.{unit_of, unit_shallow}
 use Rattle.sr_grammar.proofs.Choices.{not_true, Decided, decided, denied, DecidedFault, decided_fault, denied_fault, deciding, Test, Sees, sees_test, ahead_alike}
 use Rattle.sr_grammar.proofs.ParameterFacts.{Bound, bound, bindings, ParamList, param_list, parameter_lists}
-use Rattle.sr_grammar.proofs.FunctionFacts.{Itemed, BeginsItems, begins_items, Braced, items_read, braced_of, body_of, empty_body}
+use Rattle.sr_grammar.proofs.PlainFunctions.{Braced, body_of, empty_body}
+use Rattle.sr_grammar.proofs.OpenFunctions.{Itemed, BeginsItems, begins_items, items_read, braced_of}
 use Rattle.sr_grammar.proofs.Sorts.{end_no_left_brace}
 
 -- ---- which tokens begin an arrow function

@@ -9,36 +9,26 @@ use Rattle.sr_syntax.specs.declared.sorts.Lexeme.{Lexeme}
 use Rattle.sr_syntax.specs.declared.grown.Grown.{Grown}
 use Rattle.sr_syntax.specs.declared.grown.Grove.{Grove}
 use Rattle.sr_syntax.specs.declared.grown.Part.{Part}
-use Rattle.sr_syntax.specs.declared.grown.Goal.TheVariants as goal
 use Rattle.sr_syntax.specs.Sorts.{same_sort}
 use Rattle.sr_syntax.specs.Input.{Parser, ◌>>=◌, eat, expect, sort, sort_at, place, complete}
 use Rattle.sr_syntax.specs.Operators.{none, with, nothing, part_of, tallest}
-use Rattle.sr_syntax.specs.Bodies.{items_from, items, block, function_declaration}
+use Rattle.sr_syntax.specs.Bodies.{items, block, function_declaration}
 use Rattle.sr_syntax.specs.Statements.{ends_clause, clause_from, catch_parameter, inner_block, finally_, catch_end, catch_, try_, statement, item}
 use Rattle.sr_syntax.specs.Grammar.{tree}
 use Rattle.sr_grammar.specs.Names.{binding_of}
 use Rattle.sr_grammar.specs.Derivations.{IsItem, whole}
 use Rattle.sr_grammar.proofs.Steps.{sort_alike}
-use Rattle.sr_grammar.proofs.Taking.{Whatever, Follow, Like, Moves, Takes, moves_then, moves_first, moves_on, moves_at, moves_is, moves_when, moves_whole, moves_expect, moves_eat, No, moves_over, loops_none, loops_more}
+use Rattle.sr_grammar.proofs.Taking.{Whatever, Follow, Like, Moves, Takes, moves_then, moves_first, moves_on, moves_at, moves_is, moves_when, moves_whole, moves_expect, moves_eat, No, moves_over, loops_none, loops_more, goes_none, goes_then}
 use Rattle.sr_grammar.proofs.ParameterClaims.{other_sort}
-use Rattle.sr_grammar.proofs.FunctionClaims.{ItemsClaim, FunctionClaim, declaration_end}
-use Rattle.sr_grammar.proofs.Statings.{itemizing, item_begins, item_some, not_item}
+use Rattle.sr_grammar.proofs.FunctionClaims.{in_body, ItemClaim, ItemsClaim, FunctionClaim, declaration_end, function_inside}
+use Rattle.sr_grammar.proofs.Statings.{itemizing, item_begins, item_some}
 use Rattle.sr_grammar.proofs.StatementClaims.{keyword, item_step}
 use Rattle.sr_grammar.proofs.Sorts.{catch_self, finally_no_catch, finally_self, left_brace_no_left_parenthesis, left_brace_self}
 
 -- ---- items one after the other
 
-nest_item : (d : ℕ) {us : List Lexeme} {x : Grown} {Q : Follow} → Takes (item (tree d)) us x.height x Q → Takes (tree (suc d) goal.Item) us x.height x Q
-unfolding tree
-nest_item d m = m
-
 pub no_items_read : (d : ℕ) (ts : List Lexeme) → ItemsClaim d [] ts none
-no_items_read d ts = record { items = loops_none (items_from (tree d)) none (Like ts); clause = loops_none (clause_from (tree d)) none (Like ts) }
-
-items_turn : {d : ℕ} {us ts : List Lexeme} {x : Grown} (m : ℕ) (xs : Grove) → IsItem d us ts x → Takes (item (tree d)) us x.height x (Like ts) → Moves (items_from (tree (suc d)) (suc m) xs) us x.height (items_from (tree (suc d)) m (with xs x)) (Like ts)
-unfolding items_from
-items_turn {d} {us} {x = x} m xs derives h =
-    moves_at (max 0 x.height) x.height (omega arith) (moves_first (moves_over k.RightBrace _ _) (λ r q. not_item k.RightBrace (sort_at (us ++ r)) refl (item_begins derives r)) (moves_on (nest_item d h) _))
+no_items_read d ts = record { items = λ outer. goes_none (in_body d outer none) (Like ts); clause = loops_none (clause_from (tree d)) none (Like ts) }
 
 item_no_end : (s : Sort) → itemizing s ≡ true → ends_clause s ≡ false
 item_no_end k.Case e = cc
@@ -46,15 +36,15 @@ item_no_end k.Default e = cc
 item_no_end k.RightBrace e = cc
 item_no_end _ e = refl
 
-clause_turn : {d : ℕ} {us ts : List Lexeme} {x : Grown} (m : ℕ) (xs : Grove) → IsItem d us ts x → Takes (item (tree d)) us x.height x (Like ts) → Moves (clause_from (tree (suc d)) (suc m) xs) us x.height (clause_from (tree (suc d)) m (with xs x)) (Like ts)
+clause_turn : {d : ℕ} {us ts : List Lexeme} {x : Grown} (m : ℕ) (xs : Grove) → IsItem d us ts x → Takes (item (tree d)) us x.height x (Like ts) → Moves (clause_from (tree d) (suc m) xs) us x.height (clause_from (tree d) m (with xs x)) (Like ts)
 unfolding clause_from sort
 clause_turn {d} {us} {x = x} m xs derives h =
-    moves_is {V = tree (suc d) goal.Item >>= (λ x. clause_from (tree (suc d)) m (with xs x))} (λ r l n q. rw (item_no_end (sort_at (us ++ r)) (item_begins derives r)) refl) (moves_on (nest_item d h) (λ x. clause_from (tree (suc d)) m (with xs x)))
+    moves_is {V = item (tree d) >>= (λ x. clause_from (tree d) m (with xs x))} (λ r l n q. rw (item_no_end (sort_at (us ++ r)) (item_begins derives r)) refl) (moves_on h (λ x. clause_from (tree d) m (with xs x)))
 
-pub one_more_item_read : {d : ℕ} {us vs ts : List Lexeme} {xs : Grove} {x : Grown} → ItemsClaim (suc d) us (vs ++ ts) xs → IsItem d vs ts x → Takes (item (tree d)) vs x.height x (Like ts) → ItemsClaim (suc d) (us ++ vs) ts (with xs x)
+pub one_more_item_read : {d : ℕ} {us vs ts : List Lexeme} {xs : Grove} {x : Grown} → ItemsClaim d us (vs ++ ts) xs → IsItem d vs ts x → ItemClaim d vs ts x → ItemsClaim d (us ++ vs) ts (with xs x)
 one_more_item_read {vs = vs} {ts} {xs} w derives h = record {
-  items = loops_more w.items (λ r q. alike vs r q) (item_some derives) (λ m. items_turn m xs derives h);
-  clause = loops_more w.clause (λ r q. alike vs r q) (item_some derives) (λ m. clause_turn m xs derives h);
+  items = λ outer. goes_then (w.items outer) (λ r q. alike vs r q) (h.inside outer xs);
+  clause = loops_more w.clause (λ r q. alike vs r q) (item_some derives) (λ m. clause_turn m xs derives h.alone);
 }
   where
     alike : (vs r : List Lexeme) → Like ts r → Like (vs ++ ts) (vs ++ r)
@@ -63,11 +53,15 @@ one_more_item_read {vs = vs} {ts} {xs} w derives h = record {
 
 -- ---- functions that are declared
 
-pub function_item_reads : {d : ℕ} {us : List Lexeme} {ps : Parameters} {xs : Grove} (ts : List Lexeme) (t u : Lexeme) → t.sort ≡ k.Function → u.sort ≡ k.Identifier → FunctionClaim d us ps xs
+function_alone : {d : ℕ} {us : List Lexeme} {ps : Parameters} {xs : Grove} (ts : List Lexeme) (t u : Lexeme) → t.sort ≡ k.Function → u.sort ≡ k.Identifier → FunctionClaim d us ps xs
     → Takes (item (tree d)) (t ∷ u ∷ us) (xs.tall + 1) (whole (node.FunctionDeclaration (Some (binding_of u)) ps xs.trees) t.from (t ∷ u ∷ us) xs.tall) (Like ts)
-function_item_reads {d} {ps = ps} {xs} ts t u c e w =
+function_alone {d} {ps = ps} {xs} ts t u c e w =
     moves_when (λ r q. tt) (moves_whole (node.FunctionDeclaration (Some (binding_of u)) ps xs.trees) t.from xs.tall (omega arith) (omega arith)
     (moves_then (item_step d t k.Function (function_declaration (tree d) t.from) c (λ i. refl)) (λ r q. tt) (declaration_end w t.from u e)))
+
+pub function_item_reads : {d : ℕ} {us : List Lexeme} {ps : Parameters} {xs : Grove} (ts : List Lexeme) (t u : Lexeme) → t.sort ≡ k.Function → u.sort ≡ k.Identifier → FunctionClaim d us ps xs
+    → ItemClaim d (t ∷ u ∷ us) ts (whole (node.FunctionDeclaration (Some (binding_of u)) ps xs.trees) t.from (t ∷ u ∷ us) xs.tall)
+function_item_reads ts t u c e w = record { alone = function_alone ts t u c e w; inside = function_inside ts t u c e w }
 
 -- ---- blocks
 

@@ -79,4 +79,4 @@ calms (g.try_both {d} {us} {vs} {ws} t c h i j) = begun_whole d (t ∷ (us ++ (v
 calms (g.labelled {d} t u c a e h) = carry (t ∷ u ∷ []) (λ m ws y j. begun_whole (suc m) (t ∷ u ∷ ws) _ (λ ts calm. g.labelled t u c a e (j ts calm))) (calms h)
 
 pub item_of : {us : List Lexeme} → Begun (Calm States) us → Begun (Calm IsItem) us
-item_of b = onward (λ e vs x h. begun_whole e vs x (λ ts calm. g.statement (h ts calm))) b
+item_of b = onward (λ e vs x h. begun_whole (suc e) vs x (λ ts calm. g.statement (h ts calm))) b

@@ -14,7 +14,8 @@ use Rattle.sr_syntax.specs.declared.grown.Properties.{Properties}
 use Rattle.sr_syntax.specs.declared.grown.Cases.{Cases}
 use Rattle.sr_syntax.specs.declared.grown.Part.{Part}
 use Rattle.sr_syntax.specs.Objects.{no_properties, properties_from, properties}
-use Rattle.sr_syntax.specs.Statements.{declarations, condition, statement, item}
+use Rattle.sr_syntax.specs.Declarations.{declarations}
+use Rattle.sr_syntax.specs.Statements.{condition, statement, item}
 use Rattle.sr_syntax.specs.Grammar.{tree}
 use Rattle.sr_grammar.specs.Reading.{head}
 use Rattle.sr_grammar.specs.Derivations.{Symbol, Derives, Lists, Adds, Commas, Arguments, Array, Substitutions, Function, Body, Object, PropertiesWithCommas, OneProperty, Declares, Declarations, Condition, Perhaps, First, Block, Catch, Finally, Clauses, States, IsItem, Items}
@@ -28,11 +29,12 @@ use Rattle.sr_grammar.proofs.Chains.{ArgumentsClaim, bare_reads, chain_reads, on
 use Rattle.sr_grammar.proofs.Listing.{Added, value_added, spread_added, CommasClaim, no_elements_read, one_element_read, one_hole_read, ElementsClaim, comma_last_read, element_last_read, arguments_read, array_reads, plain_template_reads, SubstitutionsClaim, no_substitution_read, one_substitution_read, template_reads}
 use Rattle.sr_grammar.proofs.Taking.{Whatever, Like, Takes, Loops}
 use Rattle.sr_grammar.proofs.ParameterClaims.{parameter_list_read, catch_parameter_read}
-use Rattle.sr_grammar.proofs.FunctionClaims.{ItemsClaim, items_read, BodyClaim, body_claim, FunctionClaim, function_claim, function_alone_reads, function_named_reads, arrow_reads, expression_arrow_reads}
+use Rattle.sr_grammar.proofs.FunctionClaims.{ItemClaim, ItemsClaim, items_read, BodyClaim, body_claim, FunctionClaim, function_claim, function_alone_reads, function_named_reads, arrow_reads, expression_arrow_reads}
 use Rattle.sr_grammar.proofs.ObjectClaims.{PropertyClaim, shorthand_reads, keyed_reads, method_reads, spread_reads, computed_reads, computed_method_reads, getter_reads, setter_reads, no_properties_read, one_more_property_read, property_comma_last_read, property_last_read, object_reads}
 use Rattle.sr_grammar.proofs.DeclarationClaims.{DeclaresClaim, no_value_read, a_value_read, Listed, listed_one, listed_more, HeadClaim, head_one, head_more}
+use Rattle.sr_grammar.proofs.SomeTokens.{statement_some}
 use Rattle.sr_grammar.proofs.Statings.{states_begin}
-use Rattle.sr_grammar.proofs.StatementClaims.{expression_statement_reads, labelled_reads, var_reads, empty_reads, debugger_reads, continue_alone_reads, continue_to_reads, break_alone_reads, break_from_reads, return_alone_reads, return_value_reads, throw_reads, statement_item_reads, lexical_reads}
+use Rattle.sr_grammar.proofs.StatementClaims.{expression_statement_reads, labelled_reads, var_reads, empty_reads, debugger_reads, continue_alone_reads, continue_to_reads, break_alone_reads, break_from_reads, return_alone_reads, return_value_reads, throw_reads, statement_item_reads, lexical_item_reads}
 use Rattle.sr_grammar.proofs.BlockClaims.{no_items_read, one_more_item_read, function_item_reads, BlockClaim, block_claim, block_reads, CatchClaim, catch_claim, FinallyClaim, finally_claim, try_catch_reads, try_finally_reads, try_both_reads}
 use Rattle.sr_grammar.proofs.LoopClaims.{condition_read, while_reads, if_alone_reads, if_else_reads, do_alone_reads, do_ended_reads}
 use Rattle.sr_grammar.proofs.SwitchClaims.{ClausesClaim, no_clauses_read, one_more_case_read, one_default_read, switch_reads}
@@ -129,7 +131,7 @@ mutual
   function_reads (g.function t c p b) = function_claim t c (parameter_list_read t c p) (body_reads b)
 
   body_reads : {d : ℕ} {us : List Lexeme} {xs : Grove} → Body d us xs → BodyClaim d us xs
-  body_reads (g.body t c u e w) = body_claim t c (items_read u e (items_are_read w))
+  body_reads (g.body t c u e w) = body_claim t c u e (items_are_read w)
 
   -- ---- objects
 
@@ -225,14 +227,17 @@ mutual
   statement_is_read (g.try_both {ts = ts} t c b h f) = try_both_reads ts t c (block_is_read b) (catch_reads h) (finally_reads f)
   statement_is_read (g.labelled {d} {us} {ts} {x} t u c a e h) = labelled_reads d us ts x t u c a e (statement_is_read h)
 
-  pub item_is_read : {d : ℕ} {us ts : List Lexeme} {x : Grown} → IsItem d us ts x → Takes (item (tree d)) us x.height x (Like ts)
-  item_is_read (g.statement {d} {ts = ts} h) = statement_item_reads d ts (states_begin h) (statement_is_read h)
-  item_is_read (g.function_item {ts = ts} t u c e w) = function_item_reads ts t u c e (function_reads w)
-  item_is_read (g.lexical {d} {tall} {us} {vs} {ts} {ds} {how} t c w e) = lexical_reads d tall us vs ts ds how t c (declarations_read w).by_end (declarations_low true d us ts ds tall) e
+  item_reads : {d : ℕ} {us ts : List Lexeme} {x : Grown} → IsItem d us ts x → ItemClaim d us ts x
+  item_reads (g.statement {d} {ts = ts} h) = statement_item_reads d ts (statement_some h) (states_begin h) (statement_is_read h)
+  item_reads (g.function_item {ts = ts} t u c e w) = function_item_reads ts t u c e (function_reads w)
+  item_reads (g.lexical {d} {tall} {us} {vs} {ts} {ds} {how} t c w e) = lexical_item_reads d tall us vs ts ds how t c (declarations_read w).by_end (declarations_low true d us ts ds tall) e
 
   items_are_read : {d : ℕ} {us ts : List Lexeme} {xs : Grove} → Items d us ts xs → ItemsClaim d us ts xs
   items_are_read (g.no_items {d} {ts}) = no_items_read d ts
-  items_are_read (g.one_more_item w h) = one_more_item_read (items_are_read w) h (item_is_read h)
+  items_are_read (g.one_more_item w h) = one_more_item_read (items_are_read w) h (item_reads h)
+
+pub item_is_read : {d : ℕ} {us ts : List Lexeme} {x : Grown} → IsItem d us ts x → Takes (item (tree d)) us x.height x (Like ts)
+item_is_read h = (item_reads h).alone
 
 -- ---- statements and items, whatever follows that begins alike
 

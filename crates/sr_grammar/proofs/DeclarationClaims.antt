@@ -7,8 +7,9 @@ use Rattle.sr_syntax.specs.declared.sorts.Lexeme.{Lexeme}
 use Rattle.sr_syntax.specs.declared.grown.Grown.{Grown}
 use Rattle.sr_syntax.specs.Input.{Parser, ◌>>=◌, sort_at, place, left, text_of}
 use Rattle.sr_syntax.specs.Operators.{name}
-use Rattle.sr_syntax.specs.Statements.{declaration, declarations_from, declarations_behind, declarations, more_declarations}
-use Rattle.sr_syntax.specs.Statements as p
+use Rattle.sr_syntax.specs.Declarations.{declaration, declarations_from, declarations_behind, declarations}
+use Rattle.sr_syntax.specs.Statements.{more_declarations}
+use Rattle.sr_syntax.specs.Declarations as p
 use Rattle.sr_syntax.specs.Grammar.{tree}
 use Rattle.sr_grammar.specs.Derivations.{Assign, declared, value_height}
 use Rattle.sr_grammar.specs.Continuing.{Ends}

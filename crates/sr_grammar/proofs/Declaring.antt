@@ -7,8 +7,9 @@ use Rattle.sr_syntax.specs.declared.sorts.Sort.TheVariants as k
 use Rattle.sr_syntax.specs.declared.sorts.Lexeme.{Lexeme}
 use Rattle.sr_syntax.specs.declared.grown.Grown.{Grown}
 use Rattle.sr_syntax.specs.Input.{Input, Outcome, Parser, ◌>>=◌, and_then, pure, eat, sees, after, place, left, text_of}
-use Rattle.sr_syntax.specs.Statements.{declaring, declaration, declarations_from, declarations_behind, declarations, more_declarations, declared_by}
-use Rattle.sr_syntax.specs.Statements as s
+use Rattle.sr_syntax.specs.Declarations.{declaring, declaration, declarations_from, declarations_behind, declarations, declared_by}
+use Rattle.sr_syntax.specs.Declarations as s
+use Rattle.sr_syntax.specs.Statements.{more_declarations}
 use Rattle.sr_syntax.specs.Grammar.{tree}
 use Rattle.sr_grammar.specs.Derivations.{Derives, Assign, Semicolon, declared, value_height, Declares, no_value, a_value, Declarations, one_declaration, one_more_declaration, whole}
 use Rattle.sr_grammar.specs.Reading.{end_after, head, EndsThere}

@@ -14,7 +14,7 @@ use Rattle.sr_syntax.specs.Sorts.{same_sort}
 use Rattle.sr_syntax.specs.Input.{Input, Parser, ◌>>=◌, sees, sort, sort_at, place, next, complete, semicolon, max_depth}
 use Rattle.sr_syntax.specs.Bodies.{binding_if_there, declared_function}
 use Rattle.sr_syntax.specs.Expressions.{assign}
-use Rattle.sr_syntax.specs.Statements.{declaring, declarations}
+use Rattle.sr_syntax.specs.Declarations.{declaring, declarations}
 use Rattle.sr_syntax.specs.Modules.{exported_by, exported_function, default_function, default_value, export_default, export_by, module_item}
 use Rattle.sr_syntax.specs.Grammar.{tree}
 use Rattle.sr_grammar.specs.Names.{binding_of, declaring_word}

@@ -14,7 +14,7 @@ use Rattle.sr_syntax.specs.declared.grown.Goal.TheVariants as goal
 use Rattle.sr_syntax.specs.Sorts.{same_sort}
 use Rattle.sr_syntax.specs.Input.{sees, place}
 use Rattle.sr_syntax.specs.Expressions.{assign}
-use Rattle.sr_syntax.specs.Statements.{declaring, declarations}
+use Rattle.sr_syntax.specs.Declarations.{declaring, declarations}
 use Rattle.sr_syntax.specs.Bodies.{parameters_of}
 use Rattle.sr_syntax.specs.Operators.{none}
 use Rattle.sr_syntax.specs.Grammar.{tree}
@@ -34,7 +34,8 @@ use Rattle.sr_grammar.proofs.Moves.{assign_moves}
 use Rattle.sr_grammar.proofs.Lists.{Nested}
 use Rattle.sr_grammar.proofs.Targets.{a_name, some_assign}
 use Rattle.sr_grammar.proofs.ParameterFacts.{BoundIfThere, one_bound, none_bound, bindings_if_there}
-use Rattle.sr_grammar.proofs.FunctionFacts.{Parts, FunctionOf, declares, FunctionMade, function_made, declared_functions, DeclaredFunction, declared_by_name, NamedFunction, named_function, empty_function, function_declarations}
+use Rattle.sr_grammar.proofs.PlainFunctions.{Parts, FunctionOf, NamedFunction, named_function, empty_function}
+use Rattle.sr_grammar.proofs.FunctionFacts.{declares, FunctionMade, function_made, declared_functions, DeclaredFunction, declared_by_name, function_declarations}
 use Rattle.sr_grammar.proofs.Standing.{Calm, Behind, at_nothing}
 use Rattle.sr_grammar.proofs.Semicolons.{Closing, closing_by, ends_with, ended, semicolons}
 use Rattle.sr_grammar.proofs.Declaring.{declared_bys}

@@ -9,7 +9,7 @@ use Rattle.sr_syntax.specs.declared.grown.Cases.{Cases}
 use Rattle.sr_syntax.specs.Sorts.{same_sort}
 use Rattle.sr_syntax.specs.Input.{Parser, sort_at}
 use Rattle.sr_syntax.specs.Expressions.{expression}
-use Rattle.sr_syntax.specs.Statements.{declarations}
+use Rattle.sr_syntax.specs.Declarations.{declarations}
 use Rattle.sr_syntax.specs.Grammar.{tree}
 use Rattle.sr_grammar.specs.Reading.{head, EndsThere}
 use Rattle.sr_grammar.specs.Derivations.{Semicolon, written, before_brace, before_line, States, IsItem, Items, Clauses}

@@ -15,8 +15,9 @@ use Rattle.sr_syntax.specs.Sorts.{same_sort}
 use Rattle.sr_syntax.specs.Input.{Input, Parser, ◌>>=◌, pure, expect, sees, sees_text, sort, sort_at, place, next, complete, text_of}
 use Rattle.sr_syntax.specs.Operators.{is_target, nothing, part_of, tallest}
 use Rattle.sr_syntax.specs.Expressions.{expression}
-use Rattle.sr_syntax.specs.Statements.{declaring, more_declarations, perhaps, for_body, for_rest, keys_of, values_of, for_in, for_of, for_in_target, for_of_target, for_declarations, for_declared, for_named, for_declaring, for_expression, for_by, for_, statement}
-use Rattle.sr_syntax.specs.Statements as p
+use Rattle.sr_syntax.specs.Declarations.{declaring}
+use Rattle.sr_syntax.specs.Statements.{more_declarations, perhaps, for_body, for_rest, keys_of, values_of, for_in, for_of, for_in_target, for_of_target, for_declarations, for_declared, for_named, for_declaring, for_expression, for_by, for_, statement}
+use Rattle.sr_syntax.specs.Declarations as p
 use Rattle.sr_syntax.specs.Grammar.{tree}
 use Rattle.sr_grammar.specs.Names.{binding_of, is_text, declaring_word}
 use Rattle.sr_grammar.specs.Derivations.{Derives, Expression, Assign, whole}

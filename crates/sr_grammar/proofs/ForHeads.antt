@@ -10,7 +10,8 @@ use Rattle.sr_syntax.specs.declared.grown.Grown.{Grown}
 use Rattle.sr_syntax.specs.declared.grown.Part.{Part}
 use Rattle.sr_syntax.specs.Sorts.{same_sort}
 use Rattle.sr_syntax.specs.Operators.{nothing, part_of}
-use Rattle.sr_syntax.specs.Statements.{declaring, perhaps, keys_of, values_of, for_declarations}
+use Rattle.sr_syntax.specs.Declarations.{declaring}
+use Rattle.sr_syntax.specs.Statements.{perhaps, keys_of, values_of, for_declarations}
 use Rattle.sr_syntax.specs.Grammar.{tree}
 use Rattle.sr_grammar.specs.Names.{binding_of, declaring_word}
 use Rattle.sr_grammar.specs.Derivations.{Symbol, Derives, Expression, Assign, Perhaps, no_expression, an_expression, First, Declarations, one_declaration, declared, value_height, whole}

@@ -1,5 +1,5 @@
 -- What the rules of bodies, blocks and functions read, and where they fail.
-use Rattle.std.proofs.Common.{◌≡◌, ℕ, zero, suc, ◌+◌, ◌≤◌, ◌<◌, max, Bool, true, false, List, [], ◌∷◌, ◌++◌, length, Option, None, Some, Ok, Err, refl, sym, ap, ◌∙◌, subst, append_assoc, append-nil, length-append, arith, ◌⊎◌, inl, inr, if◌then◌else◌}
+use Rattle.std.proofs.Common.{◌≡◌, ℕ, ◌≤◌, ◌<◌, List, [], ◌∷◌, ◌++◌, length, Option, Some, Ok, Err, refl, sym, ap, ◌∙◌, subst, append-nil, length-append, arith}
 use Rattle.sr_ast.specs.declared.tree.Node.{Node}
 use Rattle.sr_ast.specs.declared.tree.Node.TheVariants as node
 use Rattle.sr_ast.specs.declared.binding.Binding.{Binding}
@@ -8,133 +8,26 @@ use Rattle.sr_syntax.specs.declared.sorts.Sort.TheVariants as k
 use Rattle.sr_syntax.specs.declared.sorts.Lexeme.{Lexeme}
 use Rattle.sr_syntax.specs.declared.grown.Grown.{Grown}
 use Rattle.sr_syntax.specs.declared.grown.Grove.{Grove}
-use Rattle.sr_syntax.specs.declared.grown.Goal.TheVariants as goal
-use Rattle.sr_syntax.specs.Input.{Input, Outcome, Parser, ◌>>=◌, and_then, pure, eat, sees, after, left, max_depth, complete}
-use Rattle.sr_syntax.specs.Operators.{none, with}
-use Rattle.sr_syntax.specs.Bodies.{items_from, items, body, block, parameter_list, parameters_of, declared_function, function_declaration}
+use Rattle.sr_syntax.specs.Input.{Outcome, Parser, ◌>>=◌, and_then, max_depth, complete}
+use Rattle.sr_syntax.specs.Operators.{none}
+use Rattle.sr_syntax.specs.Bodies.{body, block, parameter_list, declared_function, function_declaration}
 use Rattle.sr_syntax.specs.Grammar.{tree}
-use Rattle.sr_grammar.specs.Names.{binding_of, comma_before, no_names}
+use Rattle.sr_grammar.specs.Names.{binding_of}
 use Rattle.sr_grammar.specs.Derivations.{IsItem, Items, Body, Block, Function, whole}
 use Rattle.sr_grammar.specs.Derivations as g
 use Rattle.sr_grammar.specs.Reading.{end_after}
-use Rattle.sr_grammar.proofs.Steps.{inp, Fact, Any, Parses, Both, both, Either, first, second, Never, Pure, nothing, Eaten, ate, absent, Expected, expected, Here, here, Completed, completed, Chosen, yes, no, ChosenFault, yes_fault, no_fault, map, then_any, eaten, expecting, completing, purely, choose_any, turns, finish, pred, not_both, ending}
-use Rattle.sr_grammar.proofs.Depths.{lift_item, lift_items}
-use Rattle.sr_grammar.proofs.Facts.{Mapped, mapped, mapping, Closed, closed, closing, token, OpenedOne, opened_one, BeginsOne, StartOne, start_one}
-use Rattle.sr_grammar.proofs.SomeTokens.{item_some}
+use Rattle.sr_grammar.proofs.Steps.{Fact, Any, Parses, Both, both, Either, first, second, Never, Expected, expected, Here, here, Completed, completed, map, then_any, expecting, completing, ending}
+use Rattle.sr_grammar.proofs.Facts.{Mapped, mapped, mapping, Closed, closed, closing, token}
 use Rattle.sr_grammar.proofs.Starting.{end_some}
-use Rattle.sr_grammar.proofs.Followed.{same_first, closing_brace, items_before}
-use Rattle.sr_grammar.proofs.Lists.{Nested, assoc}
-use Rattle.sr_grammar.proofs.Beginnings.{Begun, begun_more, Wholly, wholly, Partly, partly, carry, begun_whole, Turned, onwards, at_end, Broken, broken, turned_runs, turned_breaks, turned_grows}
+use Rattle.sr_grammar.proofs.Lists.{Nested}
+use Rattle.sr_grammar.proofs.Beginnings.{Begun, begun_more, Wholly, wholly, Partly, partly, carry, begun_whole}
 use Rattle.sr_grammar.proofs.Choices.{alike}
-use Rattle.sr_grammar.proofs.ParameterFacts.{Bound, bound, bindings, ParamList, param_list, parameter_lists}
-use Rattle.sr_grammar.proofs.Sorts.{end_no_left_brace, end_no_right_brace}
-
--- ---- items up to a brace
-
--- what stands behind a brace: items, and the brace that closes them
-pub data Braced : ℕ → List Lexeme → Grove → Type 0 where
-  braced : {d : ℕ} {us ts : List Lexeme} {xs : Grove} (u : Lexeme) → u.sort ≡ k.RightBrace → Items d us (u ∷ ts) xs → Braced d (us ++ u ∷ []) xs
-
--- the items and the brace, before those that follow, and no deeper than is read
-pub data Itemed (d l n : ℕ) : List Lexeme → List Lexeme → Grove → Type 0 where
-  itemed : {vs ts : List Lexeme} {xs : Grove} (u : Lexeme) → u.sort ≡ k.RightBrace → Items d vs (u ∷ ts) xs → xs.tall ≤ max_depth → Itemed d l n (vs ++ u ∷ []) ts xs
-
--- where items fail: the tokens and more are items and a brace
-pub data BeginsItems (l n : ℕ) (us ts : List Lexeme) : Type 0 where
-  begins_items : Begun Braced us → BeginsItems l n us ts
-
--- items so far
-record ItemsSoFar (d : ℕ) (us ts : List Lexeme) (xs : Grove) : Type 0 where
-  items_are : Items d us ts xs
-  fit : xs.tall ≤ max_depth
-
--- and with the brace
-data ItemsClosed (d : ℕ) : List Lexeme → List Lexeme → Grove → Type 0 where
-  items_closed : {vs ts : List Lexeme} {xs : Grove} (u : Lexeme) → u.sort ≡ k.RightBrace → Items d vs (u ∷ ts) xs → xs.tall ≤ max_depth → ItemsClosed d (vs ++ u ∷ []) ts xs
-
-abbrev item_step : ℕ → Grove → Parser (Grove ⊎ Grove)
-item_step e found = eat k.RightBrace >>= (λ is_over. if is_over then (λ i. Ok (inr found, i)) else (tree e goal.Item >>= (λ x i. Ok (inl (with found x), i))))
-
-pub max_fits : (a b : ℕ) → a ≤ max_depth → b ≤ max_depth → max a b ≤ max_depth
-max_fits a b h k = omega (arith, h, k)
-
-item_fact : {d l n : ℕ} {us ts : List Lexeme} {found : Grove} {o : Grove ⊎ Grove}
-    → Both (Eaten k.RightBrace) (λ b. Chosen b (Pure (inr found)) (Mapped (OpenedOne IsItem d) (λ x. inl (with found x)))) l n us ts o → Turned ItemsSoFar ItemsClosed d found l n us ts o
-item_fact {found = found} (both (ate t c e) (yes f (nothing is))) = at_end found (λ vs s. items_closed t c s.items_are s.fit) is
-item_fact (both (ate t c e) (no f r)) = absurd (not_both e f)
-item_fact (both (absent e o) (yes f r)) = absurd (not_both f e)
-item_fact {found = found} (both (absent e o) (no f (mapped x (opened_one {ts = ts} h b) is))) =
-    onwards (with found x) (λ vs s. record { items_are = g.one_more_item s.items_are h; fit = max_fits found.tall x.height s.fit b }) (item_some h) is
-
--- a brace may close what stands there
-close_items : {d : ℕ} {vs ts : List Lexeme} {found : Grove} → Items d vs ts found → Begun Braced (vs ++ [])
-close_items {d} {vs} {ts} {found} w = begun_more d vs [] (token k.RightBrace ∷ []) found (braced {ts = []} (token k.RightBrace) refl (items_before (closing_brace refl) w))
-
--- one more that is begun
-begun_item : {d : ℕ} {vs : List Lexeme} {found : Grove} (us ts : List Lexeme) → Items d vs (us ++ ts) found → BeginsOne IsItem us → Begun Braced (vs ++ us)
-begun_item [] ts w b = close_items w
-begun_item {d} {vs} {found} (t ∷ us) ts w b =
-    let m : ℕ = suc (d + b.depth) in
-    let brace : List Lexeme = token k.RightBrace ∷ [] in
-    let before : Items m vs (((t ∷ us) ++ b.more) ++ brace) found = lift_items d m (omega arith) (items_before (same_first refl) w) in
-    begun_more m vs (t ∷ us) (b.more ++ brace) (with found b.made)
-    (subst (λ zs. Braced m zs (with found b.made)) (append_assoc vs ((t ∷ us) ++ b.more) brace ∙ ap (λ zs. vs ++ zs) (append_assoc (t ∷ us) b.more brace))
-    (braced {ts = []} (token k.RightBrace) refl (g.one_more_item before (lift_item b.depth (d + b.depth) (omega arith) (b.is brace refl)))))
-
-item_fault : {d l n : ℕ} {us ts : List Lexeme} {found : Grove}
-    → Either Never (Eaten k.RightBrace) (λ b. ChosenFault b Never (StartOne IsItem)) l n us ts → Broken ItemsSoFar Braced d found l n us ts
-item_fault (first c) = elim c [ ]
-item_fault (second b (yes_fault f c)) = elim c [ ]
-item_fault (second (ate t c e) (no_fault f r)) = absurd (not_both e f)
-item_fault {ts = ts} (second {vs = us} (absent e o) (no_fault f (start_one b))) = broken (λ vs s. begun_item us ts s.items_are b)
-
-module _ (d : ℕ) (nest : Nested d) where
-  abbrev item_again : ℕ → ℕ → Grove ⊎ Grove → Parser Grove
-  item_again = finish (λ m e found. items_from (tree e) m found) item_step 1 d (Turned ItemsSoFar ItemsClosed d) (Broken ItemsSoFar Braced d)
-
-  item_turn : (m e : ℕ) (found : Grove) (b : Bool) (i : Input)
-      → (if b then pure found else (tree e goal.Item >>= (λ x. items_from (tree e) m (with found x)))) i
-      ≡ and_then ((if b then (λ i. Ok (inr found, i)) else (tree e goal.Item >>= (λ x i. Ok (inl (with found x), i)))) i) (item_again m e)
-  item_turn m e found true i = refl
-  item_turn m e found false i = assoc (tree e goal.Item i) (λ x. inl (with found x)) (item_again m e)
-
-  item_unrolls : (m e : ℕ) (found : Grove) (all : List Lexeme) (l n : ℕ) → 1 + length all ≤ m
-      → items_from (tree e) m found (inp all l n) ≡ and_then (item_step e found (inp all l n)) (item_again (pred m) e)
-  unfolding items_from
-  item_unrolls zero e found all l n far = absurd (omega arith)
-  item_unrolls (suc m) e found all l n far = item_turn m e found (sees k.RightBrace (inp all l n)) (after k.RightBrace (inp all l n))
-
-  item_steps : (found : Grove) → Parses (λ e. item_step e found) d Any (Turned ItemsSoFar ItemsClosed d found) (Broken ItemsSoFar Braced d found)
-  item_steps found = map (λ l n us ts x r. item_fact r) (λ l n us ts r. item_fault r)
-      (then_any (eaten k.RightBrace end_no_right_brace) (λ b. choose_any b (purely (inr found)) (mapping nest.item (λ x. inl (with found x)))))
-
-  start_items : {ts : List Lexeme} → ItemsSoFar d [] ts none
-  start_items = record { items_are = g.no_items; fit = omega arith }
-
-  pub items_read : Parses (λ e. items (tree e)) d Any (Itemed d) BeginsItems
-  unfolding items left
-  items_read = map (λ l n us ts x r. closed_items (turned_runs r [] start_items)) (λ l n us ts r. begins_items (turned_breaks r [] start_items))
-      (turns (λ m e found. items_from (tree e) m found) item_step 1 d (Turned ItemsSoFar ItemsClosed d) (Broken ItemsSoFar Braced d)
-      item_unrolls item_steps turned_grows (λ i. left i + 1) (λ all l n. omega arith) none)
-    where
-      closed_items : {l n : ℕ} {us ts : List Lexeme} {xs : Grove} → ItemsClosed d us ts xs → Itemed d l n us ts xs
-      closed_items (items_closed u c h b) = itemed u c h b
-
--- what is read of them, whatever follows
-pub braced_of : {d l n : ℕ} {us ts : List Lexeme} {xs : Grove} → Itemed d l n us ts xs → Braced d us xs
-braced_of (itemed u c h b) = braced u c h
-
-pub itemed_fits : {d l n : ℕ} {us ts : List Lexeme} {xs : Grove} → Itemed d l n us ts xs → xs.tall ≤ max_depth
-itemed_fits (itemed u c h b) = b
+use Rattle.sr_grammar.proofs.ParameterFacts.{Bound, bound, bindings, ParamList, parameter_lists}
+use Rattle.sr_grammar.proofs.PlainFunctions.{Braced, braced, body_of, empty_body, Parts, FunctionOf, function_from, parameters_begin, body_begins, NamedFunction, unnamed, name_begins}
+use Rattle.sr_grammar.proofs.OpenFunctions.{Itemed, BeginsItems, begins_items, items_read, braced_of, itemed_fits}
+use Rattle.sr_grammar.proofs.Sorts.{end_no_left_brace}
 
 -- ---- bodies
-
-pub body_of : {d : ℕ} {us : List Lexeme} {xs : Grove} (t : Lexeme) → t.sort ≡ k.LeftBrace → Braced d us xs → Body d (t ∷ us) xs
-body_of t c (braced u e h) = g.body t c u e h
-
--- no items at all
-pub empty_body : {d : ℕ} → Body d (token k.LeftBrace ∷ token k.RightBrace ∷ []) none
-empty_body = g.body {ts = []} (token k.LeftBrace) refl (token k.RightBrace) refl g.no_items
 
 -- a body, no deeper than is read
 pub data Bodied (d l n : ℕ) (us ts : List Lexeme) (xs : Grove) : Type 0 where
@@ -183,29 +76,12 @@ blocks from d nest = map (λ l n us ts x r. block_fact r) (λ l n us ts r. block
 
 -- ---- functions, behind their names
 
--- the parameters and the items of the body
-abbrev pub Parts : Type 0
-Parts = Parameters × Grove
-
-abbrev pub FunctionOf : ℕ → List Lexeme → Parts → Type 0
-FunctionOf d us p = Function d us p.0 p.1
-
 pub data Functioned (d l n : ℕ) (us ts : List Lexeme) (p : Parts) : Type 0 where
   functioned : Function d us p.0 p.1 → p.1.tall ≤ max_depth → Functioned d l n us ts p
-
-function_from : {d e : ℕ} {us vs : List Lexeme} {ps : Parameters} {xs : Grove} → ParamList e us ps → Body d vs xs → Function d (us ++ vs) ps xs
-function_from (param_list t c p) h = g.function t c p h
 
 tail_fact : {d l n : ℕ} {us ts : List Lexeme} {p : Parts} → Both (Wholly ParamList d) (λ ps. Mapped (Bodied d) (λ xs. (ps, xs))) l n us ts p → Functioned d l n us ts p
 tail_fact {d} {l} {n} (both {us} {vs} {ts} {x = ps} (wholly h) (mapped xs (bodied i b) is)) =
     subst (λ p. Functioned d l n (us ++ vs) ts p) (sym is) (functioned (function_from h i) b)
-
--- parameters that are begun, with no items
-parameters_begin : {us : List Lexeme} → Begun ParamList us → Begun FunctionOf us
-parameters_begin b = carry [] (λ e vs ps h. record { depth = 0; more = token k.LeftBrace ∷ token k.RightBrace ∷ []; made = (ps, none); has = function_from h empty_body }) b
-
-body_begins : {d : ℕ} {us vs : List Lexeme} {ps : Parameters} → ParamList d us ps → Begun Body vs → Begun FunctionOf (us ++ vs)
-body_begins {us = us} {ps = ps} h b = carry us (λ e vs xs i. begun_whole e (us ++ vs) (ps, xs) (function_from h i)) b
 
 tail_fault : {d l n : ℕ} {us ts : List Lexeme} → Either (Partly ParamList) (Wholly ParamList d) (λ ps. Partly Body) l n us ts → Partly FunctionOf l n us ts
 tail_fault (first (partly b)) = partly (parameters_begin b)
@@ -269,23 +145,12 @@ pub data DeclaredFunction (from d l n : ℕ) : List Lexeme → List Lexeme → G
   declared_by_name : {us ts : List Lexeme} {x : Grown} (u : Lexeme) → u.sort ≡ k.Identifier → FunctionMade (declares (Some (binding_of u))) from d u.to n us ts x
       → DeclaredFunction from d l n (u ∷ us) ts x
 
--- a name and a function
-pub data NamedFunction : ℕ → List Lexeme → Parts → Type 0 where
-  named_function : {e : ℕ} {us : List Lexeme} {p : Parts} (u : Lexeme) → u.sort ≡ k.Identifier → Function e us p.0 p.1 → NamedFunction e (u ∷ us) p
-
--- no parameters, and no items
-abbrev pub empty_tokens : List Lexeme
-empty_tokens = token k.LeftParenthesis ∷ token k.RightParenthesis ∷ token k.LeftBrace ∷ token k.RightBrace ∷ []
-
-pub empty_function : {d : ℕ} → Function d empty_tokens (parameters_of [] None) none
-empty_function = g.function (token k.LeftParenthesis) refl (comma_before no_names (token k.RightParenthesis) refl) empty_body
-
 declaration_fact : {from d l n : ℕ} {us ts : List Lexeme} {x : Grown} → Both Bound (λ b. FunctionMade (declares (Some b)) from d) l n us ts x → DeclaredFunction from d l n us ts x
 declaration_fact {from} {d} {l} {n} (both {vs = us} {ts = ts} {y = x} (bound u c e) r) = declared_by_name u c (subst (λ b. FunctionMade (declares (Some b)) from d u.to n us ts x) e r)
 
 declaration_fault : {l n : ℕ} {us ts : List Lexeme} → Either Here Bound (λ b. Partly FunctionOf) l n us ts → Partly NamedFunction l n us ts
-declaration_fault (first here) = partly (begun_more 0 [] [] _ (parameters_of [] None, none) (named_function (token k.Identifier) refl empty_function))
-declaration_fault (second (bound u c e) (partly b)) = partly (carry (u ∷ []) (λ e vs p h. begun_whole e (u ∷ vs) p (named_function u c h)) b)
+declaration_fault (first here) = partly unnamed
+declaration_fault (second (bound u c e) (partly b)) = partly (name_begins u c b)
 
 pub function_declarations : (from d : ℕ) → Nested d → Parses (λ e. function_declaration (tree e) from) d Any (DeclaredFunction from d) (Partly NamedFunction)
 unfolding function_declaration

@@ -22,8 +22,8 @@ use Rattle.sr_syntax.specs.Operators.{prefix, is_prefix, update_before, bit_or_r
 use Rattle.sr_syntax.specs.Bodies.{binding_if_there, parameter_list, items, body, function_of, function_, begins_arrow, arrow_parameters, arrow_token, arrow_body, arrow_end, arrow}
 use Rattle.sr_syntax.specs.Objects.{properties, object}
 use Rattle.sr_syntax.specs.Expressions.{sequence, expression, parenthesized, elements, array, pieces, template, primary_by, primary, arguments, index, call, optional_by, optional, part_by, parts_from, parts, left_side, constructor, constructed, new_, stepped, step_by, step_after, update_by, update, unary_by, unary_, raised, power, binary_, either, short_circuit, otherwise, chosen, cond_, assign_by, assign_or_cond, assign}
-use Rattle.sr_syntax.specs.Statements.{declaration, declarations_from, declarations_behind, declarations}
-use Rattle.sr_syntax.specs.Statements as statements
+use Rattle.sr_syntax.specs.Declarations.{declaration, declarations_from, declarations_behind, declarations}
+use Rattle.sr_syntax.specs.Declarations as declaring
 use Rattle.sr_syntax.specs.Grammar.{tree}
 use Rattle.sr_grammar.specs.Reading.{end_after, EndsThere}
 use Rattle.sr_grammar.proofs.Steps.{inp, done}
@@ -243,8 +243,8 @@ module _ (nest : Goal → Parser Grown) (n : NestLow nest) where
   abbrev LowValues : List Declaration × ℕ → Type 0
   LowValues x = x.1 ≤ max_depth
 
-  declared_low : (b : Bool) (from : ℕ) (called : List ℕ) → Yields (statements.declared nest b from called) LowValue
-  unfolding statements.declared
+  declared_low : (b : Bool) (from : ℕ) (called : List ℕ) → Yields (declaring.declared nest b from called) LowValue
+  unfolding declaring.declared
   declared_low b from called = yields_behind (eat k.Assign) (λ c. yields_if c
       (yields_bind (assigns_low b) (λ x l. yields_pure {a = (roll-Declaration (record { name = called; from = from; value = Some x.tree }), x.height)} LowValue l))
       (yields_pure {a = (roll-Declaration (record { name = called; from = from; value = None }), 0)} LowValue (omega arith)))

@@ -2,6 +2,7 @@ pub mod Sorts
 pub mod Steps
 pub mod Alike
 pub mod AlikeNames
+pub mod AlikeDeclarations
 pub mod AlikeBodies
 pub mod AlikeExpressions
 pub mod AlikeStatements
@@ -22,7 +23,10 @@ pub mod Elements
 pub mod Peeks
 pub mod Templates
 pub mod ParameterFacts
+pub mod PlainFunctions
+pub mod OpenFunctions
 pub mod FunctionFacts
+pub mod PlainItems
 pub mod NamesInBraces
 pub mod ImportFacts
 pub mod ExportFacts

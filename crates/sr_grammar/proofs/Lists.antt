@@ -11,7 +11,7 @@ use Rattle.sr_syntax.specs.Input.{Input, Outcome, Parser, ◌>>=◌, and_then, p
 use Rattle.sr_syntax.specs.Operators.{assign_goal, none, with, from_of}
 use Rattle.sr_syntax.specs.Expressions.{sequence_from, sequence, expression}
 use Rattle.sr_syntax.specs.Grammar.{tree}
-use Rattle.sr_grammar.specs.Derivations.{Derives, Lists, Assign, Expression, Power, Unary, New, States, IsItem}
+use Rattle.sr_grammar.specs.Derivations.{Derives, Lists, Assign, Expression, Power, Unary, New, States}
 use Rattle.sr_grammar.specs.Derivations as g
 use Rattle.sr_grammar.specs.Faults.{Begins}
 use Rattle.sr_grammar.proofs.Steps.{inp, Fact, Any, Parses, Both, both, Either, first, second, Never, Pure, nothing, Looked, looked, Eaten, ate, absent, Chosen, yes, no, ChosenFault, yes_fault, no_fault, Runs, stop, go, Breaks, break, later, map, then_any, look, sort_shallow, eaten, purely, choose_any, turns, finish, pred, not_both, done, ending, end_append}
@@ -27,7 +27,6 @@ pub record Nested (d : ℕ) : Type 0 where
   pub unary : Parses (λ e. tree e goal.Unary) d Any (Opened Unary d) (Start Unary)
   pub new : Parses (λ e. tree e goal.New) d Any (OpenedNew d) (Start New)
   pub statement : Parses (λ e. tree e goal.Statement) d Any (OpenedOne States d) (StartOne States)
-  pub item : Parses (λ e. tree e goal.Item) d Any (OpenedOne IsItem d) (StartOne IsItem)
 
 -- ---- Assigns behind commas
 

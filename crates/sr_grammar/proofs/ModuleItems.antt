@@ -1,25 +1,23 @@
 -- What items of modules are read as, and where reading them fails.
-use Rattle.std.proofs.Common.{ℕ, zero, suc, List, refl}
+use Rattle.std.proofs.Common.{ℕ, List, refl}
 use Rattle.sr_ast.specs.declared.binding.HeadKind.TheVariants as head_kind
 use Rattle.sr_syntax.specs.declared.sorts.Sort.{Sort}
 use Rattle.sr_syntax.specs.declared.sorts.Sort.TheVariants as k
 use Rattle.sr_syntax.specs.declared.sorts.Lexeme.{Lexeme}
 use Rattle.sr_syntax.specs.declared.grown.Grown.{Grown}
-use Rattle.sr_syntax.specs.declared.grown.Goal.TheVariants as goal
 use Rattle.sr_syntax.specs.Modules.{export_by, export_, module_item_by, module_item}
 use Rattle.sr_syntax.specs.Grammar.{tree}
 use Rattle.sr_grammar.specs.Derivations.{IsItem}
 use Rattle.sr_grammar.specs.Modules.{IsModuleItem}
 use Rattle.sr_grammar.specs.Modules as g
 use Rattle.sr_grammar.proofs.Steps.{Any, Parses, Here, here, map, given, by_first, refused}
-use Rattle.sr_grammar.proofs.Facts.{Stood, stood, OpenedOne, BeginsOne, StartOne, start_one}
+use Rattle.sr_grammar.proofs.Facts.{Stood, stood, BeginsOne, StartOne, start_one}
 use Rattle.sr_grammar.proofs.Lists.{Nested}
 use Rattle.sr_grammar.proofs.Standing.{Behind, BehindFault, StartAt, behind_first}
 use Rattle.sr_grammar.proofs.ImportItems.{importing}
 use Rattle.sr_grammar.proofs.ExportItems.{behind_second, all_exports, names_exports, some_export}
 use Rattle.sr_grammar.proofs.ExportDeclarations.{declared_exports, function_exports, default_exports}
-use Rattle.sr_grammar.proofs.Statements.{items_of}
-use Rattle.sr_grammar.proofs.Nests.{nests, opens, shut, now_one}
+use Rattle.sr_grammar.proofs.PlainItems.{items_of}
 
 module _ (d : ℕ) (nest : Nested d) (from : ℕ) where
   no_export : {l n : ℕ} {us ts : List Lexeme} → Here l n us ts → BehindFault IsModuleItem k.Export l n us ts
@@ -56,8 +54,3 @@ module _ (d : ℕ) (nest : Nested d) (from : ℕ) where
 pub module_items_of : (d : ℕ) → Nested d → Parses (λ e. module_item (tree e)) d Any (Stood IsModuleItem d) (StartOne IsModuleItem)
 unfolding module_item
 module_items_of d nest = by_first (λ s. s) (λ e from v. module_item_by (tree e) from v) (λ from v. module_items_by d nest from v)
-
--- and where so many may be open, the item too
-pub opened_module_items : (d : ℕ) → Parses (λ e. tree e goal.ModuleItem) d Any (OpenedOne IsModuleItem d) (StartOne IsModuleItem)
-opened_module_items zero = shut goal.ModuleItem
-opened_module_items (suc d) = opens goal.ModuleItem d (λ l n us ts x r. now_one r) (module_items_of d (nests d))

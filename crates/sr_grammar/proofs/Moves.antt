@@ -4,7 +4,7 @@ use Rattle.sr_ast.specs.declared.tree.Declaration.{Declaration}
 use Rattle.sr_syntax.specs.declared.sorts.Lexeme.{Lexeme}
 use Rattle.sr_syntax.specs.declared.grown.Grown.{Grown}
 use Rattle.sr_syntax.specs.Expressions.{expression, assign}
-use Rattle.sr_syntax.specs.Statements.{declarations}
+use Rattle.sr_syntax.specs.Declarations.{declarations}
 use Rattle.sr_syntax.specs.Grammar.{tree}
 use Rattle.sr_grammar.specs.Reading.{end_after, EndsThere}
 use Rattle.sr_grammar.proofs.Steps.{inp, done}

@@ -17,7 +17,7 @@ use Rattle.sr_grammar.proofs.Lists.{Nested}
 use Rattle.sr_grammar.proofs.Sides.{news}
 use Rattle.sr_grammar.proofs.Operands.{powers, unaries}
 use Rattle.sr_grammar.proofs.Assigns.{assigneds}
-use Rattle.sr_grammar.proofs.Statements.{statements, items_of}
+use Rattle.sr_grammar.proofs.Statements.{statements}
 
 pub opened_again : (o : Goal) (d : ℕ) (i : Input) (r : Outcome Grown) → ((e : ℕ) → d ≤ e → goal_by (tree e) o i ≡ r) → (e : ℕ) → suc d ≤ e → tree e o i ≡ r
 unfolding tree
@@ -74,7 +74,6 @@ nests zero = record {
   unary = shut goal.Unary;
   new = shut goal.New;
   statement = shut goal.Statement;
-  item = shut goal.Item;
 }
 nests (suc d) = record {
   assign = λ has. opens (assign_goal has) d (λ l n us ts x r. now_open r) (assigned_goals has d (nests d));
@@ -82,5 +81,4 @@ nests (suc d) = record {
   unary = opens goal.Unary d (λ l n us ts x r. now_open r) (unaries d (nests d));
   new = opens goal.New d (λ l n us ts x r. now_new r) (news d (nests d));
   statement = opens goal.Statement d (λ l n us ts x r. now_one r) (statements d (nests d));
-  item = opens goal.Item d (λ l n us ts x r. now_one r) (items_of d (nests d));
 }

@@ -31,7 +31,7 @@ use Rattle.sr_grammar.proofs.Beginnings.{Begun, begun_more, carry, begun_whole, 
 use Rattle.sr_grammar.proofs.Peeks.{text_shallow, unit_of, unit_shallow}
 use Rattle.sr_grammar.proofs.Choices.{Decided, decided, denied, DecidedFault, decided_fault, denied_fault, deciding, Test}
 use Rattle.sr_grammar.proofs.ParameterFacts.{EmptyList, empty_list, empty_lists, OneParam, one_param, one_params}
-use Rattle.sr_grammar.proofs.FunctionFacts.{empty_body}
+use Rattle.sr_grammar.proofs.PlainFunctions.{empty_body}
 use Rattle.sr_grammar.proofs.PropertyFacts.{Made, PropertyOf, Behind, behind, NotBehind, not_behind, FirstKey, FirstName, FirstBracket, FirstWord, word_of, as_method, BodyMade, body_made, bodies_made, keyeds, behind_less, not_behind_less, named_properties, computeds, KeyRead, key_read, keys}
 use Rattle.sr_grammar.proofs.Sorts.{end_no_comma, end_no_right_brace}
 

@@ -27,7 +27,8 @@ use Rattle.sr_grammar.proofs.Peeks.{text_shallow, unit_of, unit_shallow, number_
 use Rattle.sr_grammar.proofs.Elements.{Arrayed, arrayed, NotArrayed, not_arrayed, arraying}
 use Rattle.sr_grammar.proofs.Templates.{Ended, ended, Templated, templated, NotTemplated, not_templated, templating}
 use Rattle.sr_grammar.proofs.ParameterFacts.{BoundIfThere, one_bound, none_bound, bindings_if_there}
-use Rattle.sr_grammar.proofs.FunctionFacts.{FunctionOf, FunctionMade, function_made, functions_made, empty_function}
+use Rattle.sr_grammar.proofs.PlainFunctions.{FunctionOf, empty_function}
+use Rattle.sr_grammar.proofs.FunctionFacts.{FunctionMade, function_made, functions_made}
 use Rattle.sr_grammar.proofs.ObjectFacts.{propertiess}
 use Rattle.sr_grammar.specs.Reading.{end_after}
 use Rattle.sr_grammar.proofs.Sorts.{end_no_right_parenthesis}

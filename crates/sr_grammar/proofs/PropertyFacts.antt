@@ -31,7 +31,8 @@ use Rattle.sr_grammar.proofs.Lists.{Nested}
 use Rattle.sr_grammar.proofs.Beginnings.{Begun, begun_more, Of, carry, begun_whole, begun_of, Partly, partly}
 use Rattle.sr_grammar.proofs.Peeks.{text_shallow, unit_of, unit_shallow, number_shallow}
 use Rattle.sr_grammar.proofs.Choices.{not_true, Decided, decided, denied, DecidedFault, decided_fault, denied_fault, deciding, Test, Sees, sees_test}
-use Rattle.sr_grammar.proofs.FunctionFacts.{Bodied, bodied, bodies, FunctionOf, Functioned, functioned, functions_then, empty_tokens, empty_function}
+use Rattle.sr_grammar.proofs.PlainFunctions.{FunctionOf, empty_tokens, empty_function}
+use Rattle.sr_grammar.proofs.FunctionFacts.{Bodied, bodied, bodies, Functioned, functioned, functions_then}
 use Rattle.sr_grammar.proofs.Sorts.{end_no_colon, end_no_right_bracket}
 
 -- a property, and the depth of its trees

@@ -8,25 +8,29 @@ use Rattle.sr_syntax.specs.declared.sorts.Sort.TheVariants as k
 use Rattle.sr_syntax.specs.declared.sorts.Sort.{Sort}
 use Rattle.sr_syntax.specs.declared.sorts.Lexeme.{Lexeme}
 use Rattle.sr_syntax.specs.declared.grown.Grown.{Grown}
+use Rattle.sr_syntax.specs.declared.grown.Grove.{Grove}
+use Rattle.sr_syntax.specs.declared.grown.OpenFunction.{OpenFunction}
 use Rattle.sr_syntax.specs.declared.grown.Goal.TheVariants as goal
 use Rattle.sr_syntax.specs.Sorts.{same_sort}
 use Rattle.sr_syntax.specs.Input.{Input, Parser, ◌>>=◌, expect, sees, sort, sort_at, line_at, line_before, place, place_at, ahead, next, complete, semicolon, text, text_of, max_depth}
-use Rattle.sr_syntax.specs.Operators.{from_of, statement_node}
+use Rattle.sr_syntax.specs.Operators.{from_of, with, statement_node}
+use Rattle.sr_syntax.specs.Bodies.{items_by, items_from}
 use Rattle.sr_syntax.specs.Expressions.{expression}
-use Rattle.sr_syntax.specs.Statements.{declaring, declarations, declared_by, ends_statement, label_if_there, continue_, break_, debugger_, return_, throw_, labelled, plain, begins_label, plain_or_labelled, statement_by, statement, item_by, item}
+use Rattle.sr_syntax.specs.Declarations.{declaring, declarations, declared_by}
+use Rattle.sr_syntax.specs.Statements.{ends_statement, label_if_there, continue_, break_, debugger_, return_, throw_, labelled, plain, begins_label, plain_or_labelled, statement_by, statement, item_by, item}
 use Rattle.sr_syntax.specs.Grammar.{tree}
 use Rattle.sr_grammar.specs.Names.{is_label, lexical_word}
 use Rattle.sr_grammar.specs.Reading.{end_after, EndsThere}
 use Rattle.sr_grammar.specs.Derivations.{Derives, Expression, Semicolon, written, before_brace, before_line, begins_statement, start_of, whole}
 use Rattle.sr_grammar.specs.Continuing.{Ends, EndsExpression}
-use Rattle.sr_grammar.proofs.Steps.{inp, sort_alike, line_alike}
+use Rattle.sr_grammar.proofs.Steps.{inp, some_is, sort_alike, line_alike}
 use Rattle.sr_grammar.proofs.Starting.{starting, starts, some_tokens, place_of, not_close}
 use Rattle.sr_grammar.proofs.Gets.{Gets, gets_now}
 use Rattle.sr_grammar.proofs.Completing.{is_sort, loose_sort}
 use Rattle.sr_grammar.proofs.Claims.{Claim}
-use Rattle.sr_grammar.proofs.Taking.{Whatever, Follow, Like, Moves, Takes, moves_then, moves_first, moves_on, moves_at, moves_is, moves_when, moves_now, moves_whole, moves_expect}
+use Rattle.sr_grammar.proofs.Taking.{Whatever, Follow, Like, Moves, Takes, moves_then, moves_first, moves_on, moves_at, moves_is, moves_when, moves_now, moves_whole, moves_whole_on, moves_through, moves_expect, Goes, goes_turn}
 use Rattle.sr_grammar.proofs.ParameterClaims.{other_sort}
-use Rattle.sr_grammar.proofs.FunctionClaims.{sort_in}
+use Rattle.sr_grammar.proofs.FunctionClaims.{sort_in, in_body, ItemClaim, items_step}
 use Rattle.sr_grammar.proofs.Statings.{stating}
 use Rattle.sr_grammar.proofs.Sorts.{colon_self, identifier_self, right_brace_no_identifier, right_brace_no_semicolon, right_brace_self, semicolon_no_identifier, semicolon_self}
 
@@ -255,15 +259,37 @@ throw_reads d us vs ts x t c b derives h low e =
 
 -- ---- items
 
-item_is : (d from : ℕ) (s : Sort) (i : Input) → stating s ≡ true → item_by (tree d) from s i ≡ statement (tree d) i
+nest_statement : (d : ℕ) {us : List Lexeme} {x : Grown} {Q : Follow} → Takes (statement (tree d)) us x.height x Q → Takes (tree (suc d) goal.Statement) us x.height x Q
+unfolding tree
+nest_statement d h = h
+
+item_is : (d from : ℕ) (s : Sort) (i : Input) → stating s ≡ true → item_by (tree d) from s i ≡ tree d goal.Statement i
 item_is d from k.Function i e = cc
 item_is d from k.Let i e = cc
 item_is d from k.Const i e = cc
 item_is d from _ i e = refl
 
-pub statement_item_reads : (d : ℕ) {us : List Lexeme} (ts : List Lexeme) {x : Grown} → ((r : List Lexeme) → stating (sort_at (us ++ r)) ≡ true) → Takes (statement (tree d)) us x.height x (Like ts) → Takes (item (tree d)) us x.height x (Like ts)
+statement_alone : (d : ℕ) {us : List Lexeme} (ts : List Lexeme) {x : Grown} → ((r : List Lexeme) → stating (sort_at (us ++ r)) ≡ true) → Takes (tree d goal.Statement) us x.height x (Like ts) → Takes (item (tree d)) us x.height x (Like ts)
 unfolding item sort
-statement_item_reads d {us} ts begins h = moves_is (λ r l n q. item_is d (place (inp (us ++ r) l n)) (sort_at (us ++ r)) (inp (us ++ r) l n) (begins r)) h
+statement_alone d {us} ts begins h = moves_is (λ r l n q. item_is d (place (inp (us ++ r) l n)) (sort_at (us ++ r)) (inp (us ++ r) l n) (begins r)) h
+
+inside_is : (d m : ℕ) (outer : List OpenFunction) (found : Grove) (from : ℕ) (s : Sort) (i : Input) → stating s ≡ true
+    → items_by (tree d) (items_from (tree d) m) outer found from s i ≡ (tree d goal.Statement >>= (λ x. items_from (tree d) m outer (with found x))) i
+inside_is d m outer found from k.RightBrace i e = cc
+inside_is d m outer found from k.Function i e = cc
+inside_is d m outer found from k.Let i e = cc
+inside_is d m outer found from k.Const i e = cc
+inside_is d m outer found from _ i e = refl
+
+statement_inside : (d : ℕ) {us : List Lexeme} (ts : List Lexeme) {x : Grown} → 0 < length us → ((r : List Lexeme) → stating (sort_at (us ++ r)) ≡ true) → Takes (tree d goal.Statement) us x.height x (Like ts) → (outer : List OpenFunction) (found : Grove)
+    → Goes (in_body d outer found) (in_body d outer (with found x)) us x.height (Like ts)
+unfolding items_from sort
+statement_inside d {us} ts {x} some begins h outer found =
+    goes_turn some (λ m. moves_is {V = tree d goal.Statement >>= (λ x. items_from (tree d) m outer (with found x))} (λ r l n q. inside_is d m outer found (place (inp (us ++ r) l n)) (sort_at (us ++ r)) (inp (us ++ r) l n) (begins r))
+    (moves_on h (λ x. items_from (tree d) m outer (with found x))))
+
+pub statement_item_reads : (d : ℕ) {us : List Lexeme} (ts : List Lexeme) {x : Grown} → 0 < length us → ((r : List Lexeme) → stating (sort_at (us ++ r)) ≡ true) → Takes (statement (tree d)) us x.height x (Like ts) → ItemClaim (suc d) us ts x
+statement_item_reads d ts some begins h = let open_ = nest_statement d h in record { alone = statement_alone (suc d) ts begins open_; inside = statement_inside (suc d) ts some begins open_ }
 
 pub item_step : (d : ℕ) (t : Lexeme) (v : Sort) (rule : Parser Grown) → t.sort ≡ v → ((i : Input) → item_by (tree d) t.from v i ≡ rule (next i)) → Moves (item (tree d)) (t ∷ []) 0 rule Whatever
 unfolding item sort place next
@@ -280,8 +306,33 @@ lexical_step d t how k.Const c e = item_step d t k.Const (declared_by (tree d) h
     how_is how e i = let same : head_kind.Const ≡ how = cc in ap (λ a. declared_by (tree d) a t.from (next i)) same
 lexical_step d t how _ c e = cc
 
-pub lexical_reads : (d tall : ℕ) (us vs ts : List Lexeme) (ds : List Declaration) (how : HeadKind) (t : Lexeme) → lexical_word t.sort ≡ Some how → Takes (declarations (tree d) true) us tall (ds, tall) (Ends true 16)
+-- the same among others in braces
+lexical_start : (d m : ℕ) (outer : List OpenFunction) (found : Grove) (t : Lexeme) (how : HeadKind) (s : Sort) → t.sort ≡ s → lexical_word s ≡ Some how
+    → Moves (in_body d outer found (suc m)) (t ∷ []) 0 (declared_by (tree d) how t.from >>= (λ x. items_from (tree d) m outer (with found x))) Whatever
+lexical_start d m outer found t how k.Let c e =
+    items_step d m outer found t k.Let (declared_by (tree d) how t.from >>= (λ x. items_from (tree d) m outer (with found x))) c
+    (λ i. some_is (λ a. items_by (tree d) (items_from (tree d) m) outer found t.from k.Let i ≡ (declared_by (tree d) a t.from >>= (λ x. items_from (tree d) m outer (with found x))) (next i)) e refl)
+lexical_start d m outer found t how k.Const c e =
+    items_step d m outer found t k.Const (declared_by (tree d) how t.from >>= (λ x. items_from (tree d) m outer (with found x))) c
+    (λ i. some_is (λ a. items_by (tree d) (items_from (tree d) m) outer found t.from k.Const i ≡ (declared_by (tree d) a t.from >>= (λ x. items_from (tree d) m outer (with found x))) (next i)) e refl)
+lexical_start d m outer found t how _ c e = cc
+
+lexical_inside : (d tall : ℕ) (us vs ts : List Lexeme) (ds : List Declaration) (how : HeadKind) (t : Lexeme) → lexical_word t.sort ≡ Some how → Takes (declarations (tree d) true) us tall (ds, tall) (Ends true 16)
+    → (EndsThere (declarations (tree d) true) us ts (ds, tall) → tall ≤ max_depth) → Semicolon (EndsThere (declarations (tree d) true) us ts (ds, tall)) vs ts → (outer : List OpenFunction) (found : Grove)
+    → Goes (in_body d outer found) (in_body d outer (with found (whole (declaring how ds) t.from (t ∷ (us ++ vs)) tall))) (t ∷ (us ++ vs)) (tall + 1) (Like ts)
+lexical_inside d tall us vs ts ds how t c w low e outer found =
+    goes_turn (omega arith) (λ m.
+    let f : Grown → Parser Grove = λ x. items_from (tree d) m outer (with found x) in
+    moves_whole_on (declaring how ds) t.from tall (omega arith) (omega arith) f
+    (moves_then (lexical_start d m outer found t how t.sort refl c) (λ r q. tt) (moves_through (declared_end d tall us vs ts ds how t.from w low e) f)))
+
+lexical_alone : (d tall : ℕ) (us vs ts : List Lexeme) (ds : List Declaration) (how : HeadKind) (t : Lexeme) → lexical_word t.sort ≡ Some how → Takes (declarations (tree d) true) us tall (ds, tall) (Ends true 16)
     → (EndsThere (declarations (tree d) true) us ts (ds, tall) → tall ≤ max_depth) → Semicolon (EndsThere (declarations (tree d) true) us ts (ds, tall)) vs ts
     → Takes (item (tree d)) (t ∷ (us ++ vs)) (tall + 1) (whole (declaring how ds) t.from (t ∷ (us ++ vs)) tall) (Like ts)
-lexical_reads d tall us vs ts ds how t c w low e =
+lexical_alone d tall us vs ts ds how t c w low e =
     moves_whole (declaring how ds) t.from tall (omega arith) (omega arith) (moves_then (lexical_step d t how t.sort refl c) (λ r q. tt) (declared_end d tall us vs ts ds how t.from w low e))
+
+pub lexical_item_reads : (d tall : ℕ) (us vs ts : List Lexeme) (ds : List Declaration) (how : HeadKind) (t : Lexeme) → lexical_word t.sort ≡ Some how → Takes (declarations (tree d) true) us tall (ds, tall) (Ends true 16)
+    → (EndsThere (declarations (tree d) true) us ts (ds, tall) → tall ≤ max_depth) → Semicolon (EndsThere (declarations (tree d) true) us ts (ds, tall)) vs ts
+    → ItemClaim d (t ∷ (us ++ vs)) ts (whole (declaring how ds) t.from (t ∷ (us ++ vs)) tall)
+lexical_item_reads d tall us vs ts ds how t c w low e = record { alone = lexical_alone d tall us vs ts ds how t c w low e; inside = lexical_inside d tall us vs ts ds how t c w low e }

@@ -1,4 +1,4 @@
--- What statements and items are read as, and where reading them fails.
+-- What statements are read as, and where reading them fails.
 use Rattle.std.proofs.Common.{◌≡◌, ℕ, suc, ◌<◌, Bool, true, false, ◌&&◌, List, [], ◌∷◌, ◌++◌, length, refl, sym, ap, ◌∙◌, subst, append_assoc, append-nil, length-append, arith}
 use Rattle.sr_ast.specs.declared.tree.Node.TheVariants as node
 use Rattle.sr_ast.specs.declared.binding.HeadKind.TheVariants as head_kind
@@ -10,10 +10,10 @@ use Rattle.sr_syntax.specs.Sorts.{same_sort}
 use Rattle.sr_syntax.specs.Input.{sees, ahead, sort, sort_at, ahead_at, text, refuse}
 use Rattle.sr_syntax.specs.Operators.{statement_node, from_of}
 use Rattle.sr_syntax.specs.Expressions.{expression}
-use Rattle.sr_syntax.specs.Statements.{plain, labelled, begins_label, plain_or_labelled, statement_by, statement, item_by, item}
+use Rattle.sr_syntax.specs.Statements.{plain, labelled, begins_label, plain_or_labelled, statement_by, statement}
 use Rattle.sr_syntax.specs.Grammar.{tree}
-use Rattle.sr_grammar.specs.Names.{is_label, lexical_word}
-use Rattle.sr_grammar.specs.Derivations.{Expression, begins_statement, start_of, States, IsItem, whole}
+use Rattle.sr_grammar.specs.Names.{is_label}
+use Rattle.sr_grammar.specs.Derivations.{Expression, begins_statement, start_of, States, whole}
 use Rattle.sr_grammar.specs.Derivations as g
 use Rattle.sr_grammar.specs.Reading.{end_after, EndsThere}
 use Rattle.sr_grammar.proofs.Steps.{Fact, Fault, Any, Need, Some_left, Parses, Both, both, Either, first, second, Never, Taken, taken, Expected, expected, Here, here, Completed, completed, completing, map, map_given, given, then_any, take, by_first, expecting, refused, same_sort_true, sort_alike, ending, end_append, and_is}
@@ -21,13 +21,12 @@ use Rattle.sr_grammar.proofs.Facts.{Closed, closed, closing, token, Stood, stood
 use Rattle.sr_grammar.proofs.Peeks.{text_shallow}
 use Rattle.sr_grammar.proofs.Choices.{Decided, decided, denied, DecidedFault, decided_fault, denied_fault, deciding, Test, ahead_alike}
 use Rattle.sr_grammar.proofs.SomeTokens.{some_tokens}
-use Rattle.sr_grammar.proofs.FunctionFacts.{Blocked, blocked, NotBlocked, not_blocked, blocks, Parts, function_made, DeclaredFunction, declared_by_name, NamedFunction, named_function, function_declarations}
+use Rattle.sr_grammar.proofs.FunctionFacts.{Blocked, blocked, NotBlocked, not_blocked, blocks}
 use Rattle.sr_grammar.proofs.Starting.{end_some}
 use Rattle.sr_grammar.proofs.Lists.{Nested}
-use Rattle.sr_grammar.proofs.Beginnings.{Begun, Of, Partly, partly, carry, onward, begun_whole}
+use Rattle.sr_grammar.proofs.Beginnings.{Begun, Of, carry, onward, begun_whole}
 use Rattle.sr_grammar.proofs.Standing.{Calm, begins_one, started, begun_calm, an_empty, no_statement, Wanted, at_nothing, StartAt, start_at, Behind, BehindFault, behind_first, anywhere, completed_behind}
 use Rattle.sr_grammar.proofs.Semicolons.{Closing, closing_by, ends_with, ended, semicolons, Entire, entire, entires}
-use Rattle.sr_grammar.proofs.Calms.{item_of}
 use Rattle.sr_grammar.proofs.Declaring.{declared_bys}
 use Rattle.sr_grammar.proofs.Conditions.{ifs, dos, whiles}
 use Rattle.sr_grammar.proofs.ForLoops.{fors}
@@ -189,28 +188,3 @@ module _ (d : ℕ) (nest : Nested d) (from : ℕ) where
 pub statements : (d : ℕ) → Nested d → Parses (λ e. statement (tree e)) d Any (Stood States d) (StartOne States)
 unfolding statement
 statements d nest = by_first (λ s. s) (λ e from v. statement_by (tree e) from v) (λ from v. states_by d nest from v)
-
--- ---- items
-
-item_stood : {d l n : ℕ} {us ts : List Lexeme} {x : Grown} → Stood States d l n us ts x → Stood IsItem d l n us ts x
-item_stood (stood h b) = stood (g.statement h) b
-
-module _ (d : ℕ) (nest : Nested d) (from : ℕ) where
-  function_fact : {l n : ℕ} {us ts : List Lexeme} {x : Grown} → DeclaredFunction from d l n us ts x → Behind IsItem d from k.Function l n us ts x
-  function_fact (declared_by_name u c (function_made h fits is)) = λ t v o at. completed_behind t o at fits is refl (g.function_item t u v c h)
-
-  function_fault : {l n : ℕ} {us ts : List Lexeme} → Partly NamedFunction l n us ts → BehindFault IsItem k.Function l n us ts
-  function_fault (partly b) = λ t v. carry (t ∷ []) (λ e vs p h. begun t v h) b
-    where
-      begun : {e : ℕ} {vs : List Lexeme} {p : Parts} (t : Lexeme) → t.sort ≡ k.Function → NamedFunction e vs p → Begun (Calm IsItem) (t ∷ vs)
-      begun {e} {vs} t v (named_function u c h) = begun_whole e (t ∷ vs) _ (λ ts calm. g.function_item t u v c h)
-
-  items_by : (v : Sort) → Parses (λ e. item_by (tree e) from v) d (StartAt v from) (Stood IsItem d) (StartOne IsItem)
-  items_by k.Function = behind_first k.Function from (λ e. cc) (map (λ l n us ts x r. function_fact r) (λ l n us ts r. function_fault r) (function_declarations from d nest))
-  items_by k.Let = behind_first k.Let from (λ e. cc) (declared_bys IsItem head_kind.Let k.Let (λ d tall us vs ts ds t q h e. g.lexical {how = head_kind.Let} t (ap lexical_word q) h e) d nest from)
-  items_by k.Const = behind_first k.Const from (λ e. cc) (declared_bys IsItem head_kind.Const k.Const (λ d tall us vs ts ds t q h e. g.lexical {how = head_kind.Const} t (ap lexical_word q) h e) d nest from)
-  items_by v = given (λ ts m. tt) (map (λ l n us ts x r. item_stood r) (λ l n us ts r. start_one (begins_one (item_of (started r)))) (statements d nest))
-
-pub items_of : (d : ℕ) → Nested d → Parses (λ e. item (tree e)) d Any (Stood IsItem d) (StartOne IsItem)
-unfolding item
-items_of d nest = by_first (λ s. s) (λ e from v. item_by (tree e) from v) (λ from v. items_by d nest from v)

@@ -7,22 +7,22 @@ use Rattle.sr_syntax.specs.declared.sorts.Lexeme.{Lexeme}
 use Rattle.sr_syntax.specs.declared.grown.Grown.{Grown}
 use Rattle.sr_syntax.specs.declared.grown.Grove.{Grove}
 use Rattle.sr_syntax.specs.declared.grown.Cases.{Cases}
-use Rattle.sr_syntax.specs.declared.grown.Goal.TheVariants as goal
 use Rattle.sr_syntax.specs.Input.{Input, Outcome, Parser, ◌>>=◌, ◌>>◌, and_then, pure, refuse, peek, take_token, sort, next, left}
 use Rattle.sr_syntax.specs.Operators.{none, with}
-use Rattle.sr_syntax.specs.Statements.{no_cases, with_case, with_default, ends_clause, clause_from, clause_items, clause, case_, default_, cases_by, cases_from, cases, switch_}
+use Rattle.sr_syntax.specs.Statements.{item, no_cases, with_case, with_default, ends_clause, clause_from, clause_items, clause, case_, default_, cases_by, cases_from, cases, switch_}
 use Rattle.sr_syntax.specs.Grammar.{tree}
 use Rattle.sr_grammar.specs.Derivations.{Derives, Expression, Condition, States, IsItem, Items, Clauses}
 use Rattle.sr_grammar.specs.Derivations as g
 use Rattle.sr_grammar.proofs.Steps.{inp, Fact, Fault, Any, Parses, Both, both, Either, first, second, Never, Pure, nothing, Looked, looked, Expected, expected, Here, here, Chosen, yes, no, ChosenFault, yes_fault, no_fault, Runs, Breaks, map, given, then_any, look, sort_shallow, expecting, purely, refused, choose_any, turns, finish, pred, done, end_append}
 use Rattle.sr_grammar.proofs.Depths.{lift, lift_condition, lift_items, lift_item, lift_clauses}
-use Rattle.sr_grammar.proofs.Facts.{Derived, derived, Mapped, mapped, mapping, Closed, closed, closing, Start, token, OpenedOne, opened_one, BeginsOne, StartOne, start_one}
+use Rattle.sr_grammar.proofs.Facts.{Derived, derived, Mapped, mapped, mapping, Closed, closed, closing, Start, token, Stood, stood, BeginsOne, StartOne, start_one}
 use Rattle.sr_grammar.proofs.Peeks.{Sorted, by_sort, Token, one_token, taking}
 use Rattle.sr_grammar.proofs.Followed.{same_first, closing_brace, items_before, clauses_before}
 use Rattle.sr_grammar.proofs.SomeTokens.{item_some, at_first}
 use Rattle.sr_grammar.proofs.Lists.{Nested, expressions, assoc}
 use Rattle.sr_grammar.proofs.Beginnings.{Begun, carry, onward, begun_whole, begun_more, Turned, onwards, at_end, Broken, broken, turned_runs, turned_breaks, turned_grows}
 use Rattle.sr_grammar.proofs.Standing.{Calm, carry_in, begun_at, Wanted, at_nothing, Behind, BehindFault, completed_behind}
+use Rattle.sr_grammar.proofs.PlainItems.{items_of}
 use Rattle.sr_grammar.proofs.Conditions.{Conditional, conditional, conditions}
 use Rattle.sr_grammar.proofs.Sorts.{end_no_colon, end_no_left_brace}
 
@@ -36,7 +36,7 @@ abbrev BracedItems : ℕ → List Lexeme → Grove → Type 0
 BracedItems e us xs = Items e us brace xs
 
 abbrev clause_step : ℕ → Grove → Parser (Grove ⊎ Grove)
-clause_step e found = peek >>= (λ s. if ends_clause s then (λ i. Ok (inr found, i)) else (tree e goal.Item >>= (λ x i. Ok (inl (with found x), i))))
+clause_step e found = peek >>= (λ s. if ends_clause s then (λ i. Ok (inr found, i)) else (item (tree e) >>= (λ x i. Ok (inl (with found x), i))))
 
 abbrev ItemTurn : ℕ → Grove → Fact (Grove ⊎ Grove)
 ItemTurn d found = Turned Items Items d found
@@ -45,15 +45,15 @@ abbrev NoItemTurn : ℕ → Grove → Fault
 NoItemTurn d found = Broken Items BracedItems d found
 
 item_turn_fact : {d l n : ℕ} {us ts : List Lexeme} {found : Grove} {o : Grove ⊎ Grove}
-    → Both (Looked sort) (λ s. Chosen (ends_clause s) (Pure (inr found)) (Mapped (OpenedOne IsItem d) (λ x. inl (with found x)))) l n us ts o → ItemTurn d found l n us ts o
+    → Both (Looked sort) (λ s. Chosen (ends_clause s) (Pure (inr found)) (Mapped (Stood IsItem d) (λ x. inl (with found x)))) l n us ts o → ItemTurn d found l n us ts o
 item_turn_fact {d} {found = found} (both (looked e) (yes f (nothing {ts} is))) = at_end found (λ vs s. subst (λ zs. Items d zs ts found) (sym (append-nil vs)) s) is
-item_turn_fact {found = found} (both (looked e) (no f (mapped x (opened_one h b) is))) = onwards (with found x) (λ vs s. g.one_more_item s h) (item_some h) is
+item_turn_fact {found = found} (both (looked e) (no f (mapped x (stood h b) is))) = onwards (with found x) (λ vs s. g.one_more_item s h) (item_some h) is
 
 -- one more that is begun
 begun_item : {d : ℕ} {vs : List Lexeme} {found : Grove} (us ts : List Lexeme) → Items d vs (us ++ ts) found → BeginsOne IsItem us → Begun BracedItems (vs ++ us)
 begun_item {d} {vs} {found} [] ts w b = at_nothing (begun_whole d vs found (items_before (closing_brace refl) w))
-begun_item {d} {vs} {found} (t ∷ us) ts w b = begun_more (suc (d + b.depth)) vs (t ∷ us) b.more (with found b.made)
-    (g.one_more_item (lift_items d (suc (d + b.depth)) (omega arith) (items_before (same_first refl) w)) (lift_item b.depth (d + b.depth) (omega arith) (b.is brace refl)))
+begun_item {d} {vs} {found} (t ∷ us) ts w b = begun_more (d + b.depth) vs (t ∷ us) b.more (with found b.made)
+    (g.one_more_item (lift_items d (d + b.depth) (omega arith) (items_before (same_first refl) w)) (lift_item b.depth (d + b.depth) (omega arith) (b.is brace refl)))
 
 item_turn_fault : {d l n : ℕ} {us ts : List Lexeme} {found : Grove}
     → Either Never (Looked sort) (λ s. ChosenFault (ends_clause s) Never (StartOne IsItem)) l n us ts → NoItemTurn d found l n us ts
@@ -66,10 +66,10 @@ module _ (d : ℕ) (nest : Nested d) where
   clause_again = finish (λ m e found. clause_from (tree e) m found) clause_step 1 d (ItemTurn d) (NoItemTurn d)
 
   clause_turn : (m e : ℕ) (found : Grove) (b : Bool) (i : Input)
-      → (if b then pure found else (tree e goal.Item >>= (λ x. clause_from (tree e) m (with found x)))) i
-      ≡ and_then ((if b then (λ i. Ok (inr found, i)) else (tree e goal.Item >>= (λ x i. Ok (inl (with found x), i)))) i) (clause_again m e)
+      → (if b then pure found else (item (tree e) >>= (λ x. clause_from (tree e) m (with found x)))) i
+      ≡ and_then ((if b then (λ i. Ok (inr found, i)) else (item (tree e) >>= (λ x i. Ok (inl (with found x), i)))) i) (clause_again m e)
   clause_turn m e found true i = refl
-  clause_turn m e found false i = assoc (tree e goal.Item i) (λ x. inl (with found x)) (clause_again m e)
+  clause_turn m e found false i = assoc (item (tree e) i) (λ x. inl (with found x)) (clause_again m e)
 
   clause_unrolls : (m e : ℕ) (found : Grove) (all : List Lexeme) (l n : ℕ) → 1 + length all ≤ m
       → clause_from (tree e) m found (inp all l n) ≡ and_then (clause_step e found (inp all l n)) (clause_again (pred m) e)
@@ -79,7 +79,7 @@ module _ (d : ℕ) (nest : Nested d) where
 
   clause_steps : (found : Grove) → Parses (λ e. clause_step e found) d Any (ItemTurn d found) (NoItemTurn d found)
   clause_steps found = map (λ l n us ts x r. item_turn_fact r) (λ l n us ts r. item_turn_fault r)
-      (then_any (look sort sort_shallow) (λ s. choose_any (ends_clause s) (purely (inr found)) (mapping nest.item (λ x. inl (with found x)))))
+      (then_any (look sort sort_shallow) (λ s. choose_any (ends_clause s) (purely (inr found)) (mapping (items_of d nest) (λ x. inl (with found x)))))
 
   clause_runs : Parses (λ e. clause_items (tree e)) d Any (Runs (ItemTurn d) none) (Breaks (ItemTurn d) (NoItemTurn d) none)
   unfolding clause_items left

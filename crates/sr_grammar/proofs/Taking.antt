@@ -139,6 +139,62 @@ loops_last {S} {A} {P} {V} {L} {us} {vs} {h} {j} {e} {Q} {R} w follow turn = rec
         subst (λ zs. Gets (P (inp zs l n)) (max h j) (V (inp r (end_after l (us ++ vs)) n))) (sym (append_assoc us vs r))
         (gets_to (gets_max h j t.gets (last_turn r (end_after l us) n t.turns q t.enough)) (ap (λ a. V (inp r a n)) (sym (end_append l us vs))))
 
+-- ---- loops of more than one state
+
+-- Over these tokens a loop comes to another one, or to itself in another state, with turns enough left, where it has turns enough.
+pub record Goes {A : Type 0} (L K : ℕ → Parser A) (us : List Lexeme) (h : ℕ) (Q : Follow) : Type 0 where
+  pub goes : (m : ℕ) (r : List Lexeme) (l n : ℕ) → Q r → length (us ++ r) < m → Turns (L m (inp (us ++ r) l n)) h (λ m. K m (inp r (end_after l us) n)) r
+
+pub goes_none : {A : Type 0} (L : ℕ → Parser A) (Q : Follow) → Goes L L [] 0 Q
+goes_none L Q = record { goes = λ m r l n q far. record { turns = m; enough = far; gets = gets_now 0 refl (omega arith) } }
+
+-- a turn
+pub goes_turn : {A : Type 0} {L K : ℕ → Parser A} {us : List Lexeme} {h : ℕ} {Q : Follow} → 0 < length us → ((m : ℕ) → Moves (L (suc m)) us h (K m) Q) → Goes L K us h Q
+goes_turn {A} {L} {K} {us} {h} {Q} some turn = record { goes = go }
+  where
+    go : (m : ℕ) (r : List Lexeme) (l n : ℕ) → Q r → length (us ++ r) < m → Turns (L m (inp (us ++ r) l n)) h (λ m. K m (inp r (end_after l us) n)) r
+    go zero r l n q far = absurd (omega (arith, far))
+    go (suc m) r l n q far = record { turns = m; enough = omega (arith, far, some, length-append us r); gets = (turn m).gets r l n q }
+
+pub goes_then : {A : Type 0} {L K M : ℕ → Parser A} {us vs : List Lexeme} {h j : ℕ} {Q R : Follow} → Goes L K us h Q → ((r : List Lexeme) → R r → Q (vs ++ r)) → Goes K M vs j R → Goes L M (us ++ vs) (max h j) R
+goes_then {A} {L} {K} {M} {us} {vs} {h} {j} {Q} {R} first follow second = record { goes = go }
+  where
+    go : (m : ℕ) (r : List Lexeme) (l n : ℕ) → R r → length ((us ++ vs) ++ r) < m → Turns (L m (inp ((us ++ vs) ++ r) l n)) (max h j) (λ m. M m (inp r (end_after l (us ++ vs)) n)) r
+    go m r l n q far =
+        let one = first.goes m (vs ++ r) l n (follow r q) (subst (λ zs. length zs < m) (append_assoc us vs r) far) in
+        let two = second.goes one.turns r (end_after l us) n q one.enough in
+        record {
+          turns = two.turns;
+          enough = two.enough;
+          gets = subst (λ zs. Gets (L m (inp zs l n)) (max h j) (M two.turns (inp r (end_after l (us ++ vs)) n))) (sym (append_assoc us vs r))
+              (gets_to (gets_max h j one.gets two.gets) (ap (λ a. M two.turns (inp r a n)) (sym (end_append l us vs))));
+        }
+
+-- the last turn
+pub goes_last : {A : Type 0} {L K : ℕ → Parser A} {V : Parser A} {us vs : List Lexeme} {h j : ℕ} {Q R : Follow} → Goes L K us h Q → ((r : List Lexeme) → R r → Q (vs ++ r))
+    → ((m : ℕ) → Moves (K (suc m)) vs j V R) → Moves (λ i. L (left i + 1) i) (us ++ vs) (max h j) V R
+unfolding left
+goes_last {A} {L} {K} {V} {us} {vs} {h} {j} {Q} {R} first follow turn = record { gets = go }
+  where
+    last_turn : (r : List Lexeme) (l n m : ℕ) → R r → length (vs ++ r) < m → Gets (K m (inp (vs ++ r) l n)) j (V (inp r (end_after l vs) n))
+    last_turn r l n zero q far = absurd (omega (arith, far))
+    last_turn r l n (suc m) q far = (turn m).gets r l n q
+
+    go : (r : List Lexeme) (l n : ℕ) → R r → Gets (L (length ((us ++ vs) ++ r) + 1) (inp ((us ++ vs) ++ r) l n)) (max h j) (V (inp r (end_after l (us ++ vs)) n))
+    go r l n q =
+        let some = first.goes (length (us ++ (vs ++ r)) + 1) (vs ++ r) l n (follow r q) (omega arith) in
+        subst (λ zs. Gets (L (length zs + 1) (inp zs l n)) (max h j) (V (inp r (end_after l (us ++ vs)) n))) (sym (append_assoc us vs r))
+        (gets_to (gets_max h j some.gets (last_turn r (end_after l us) n some.turns q some.enough)) (ap (λ a. V (inp r a n)) (sym (end_append l us vs))))
+
+pub goes_at : {A : Type 0} {L K : ℕ → Parser A} {us : List Lexeme} {Q : Follow} (h j : ℕ) → h ≡ j → Goes L K us h Q → Goes L K us j Q
+goes_at {L = L} {K} {us} {Q} h j e g = subst (λ a. Goes L K us a Q) e g
+
+pub goes_tokens : {A : Type 0} {L K : ℕ → Parser A} {us vs : List Lexeme} {h : ℕ} {Q : Follow} → us ≡ vs → Goes L K us h Q → Goes L K vs h Q
+goes_tokens {L = L} {K} {h = h} {Q} e g = subst (λ zs. Goes L K zs h Q) e g
+
+pub goes_when : {A : Type 0} {L K : ℕ → Parser A} {us : List Lexeme} {h : ℕ} {Q R : Follow} → ((r : List Lexeme) → R r → Q r) → Goes L K us h Q → Goes L K us h R
+goes_when f g = record { goes = λ m r l n q far. g.goes m r l n (f r q) far }
+
 -- ---- heights
 
 pub zero_max : (a : ℕ) → max 0 a ≡ a

@@ -5,17 +5,15 @@ use Rattle.sr_syntax.specs.declared.sorts.Sort.TheVariants as k
 use Rattle.sr_syntax.specs.declared.sorts.Sort.{Sort}
 use Rattle.sr_syntax.specs.declared.sorts.Lexeme.{Lexeme}
 use Rattle.sr_syntax.specs.declared.grown.Grown.{Grown}
-use Rattle.sr_syntax.specs.declared.grown.Goal.TheVariants as goal
 use Rattle.sr_syntax.specs.Sorts.{same_sort}
-use Rattle.sr_syntax.specs.Input.{Input, and_then, sort, sort_at, left, max_depth}
-use Rattle.sr_syntax.specs.Statements.{item}
+use Rattle.sr_syntax.specs.Input.{and_then, sort, sort_at, left, max_depth}
 use Rattle.sr_syntax.specs.Modules.{module_item}
 use Rattle.sr_syntax.specs.Grammar.{tree, whole_item, whole_module_item, script_from, script, module_from, module_items, value_of, script_of, module_of}
 use Rattle.sr_grammar.specs.Reading.{end_after, head}
 use Rattle.sr_grammar.specs.Derivations.{IsItem}
 use Rattle.sr_grammar.specs.Modules.{IsModuleItem}
 use Rattle.sr_grammar.specs.Modules as m
-use Rattle.sr_grammar.specs.Scripts.{open_beside, Script, ended, Module, module_ended}
+use Rattle.sr_grammar.specs.Scripts.{open_in_item, Script, ended, Module, module_ended}
 use Rattle.sr_grammar.specs.Scripts as s
 use Rattle.sr_grammar.specs.Laws.{CompleteScript, CompleteModule}
 use Rattle.sr_grammar.proofs.Steps.{inp, done}
@@ -49,23 +47,15 @@ module_item_is_read (m.export_default_value {d} {us} {vs} {ts} {x} t c p e o h f
 pub module_item_read : {d : ℕ} {us ts : List Lexeme} {x : Grown} → IsModuleItem d us ts x → (r : List Lexeme) (l n : ℕ) → head r ≡ head ts → Reads (module_item (tree d)) us x r l n
 module_item_read h = (module_item_is_read h).gets
 
--- ---- items are open while they are read
+-- ---- items of texts
 
-pub item_at : (d : ℕ) (i : Input) → tree (suc d) goal.Item i ≡ item (tree d) i
-unfolding tree
-item_at d i = refl
-
-pub module_item_at : (d : ℕ) (i : Input) → tree (suc d) goal.ModuleItem i ≡ module_item (tree d) i
-unfolding tree
-module_item_at d i = refl
-
-item_goes : {us ts : List Lexeme} {x : Grown} → IsItem open_beside us ts x → x.height ≤ max_depth → (l n : ℕ) → whole_item (inp (us ++ ts) l n) ≡ done x (inp ts (end_after l us) n)
+item_goes : {us ts : List Lexeme} {x : Grown} → IsItem open_in_item us ts x → x.height ≤ max_depth → (l n : ℕ) → whole_item (inp (us ++ ts) l n) ≡ done x (inp ts (end_after l us) n)
 unfolding whole_item
-item_goes {us} {ts} h fits l n = item_at open_beside (inp (us ++ ts) l n) ∙ (item_read h ts l n refl).fits fits
+item_goes {us} {ts} h fits l n = (item_read h ts l n refl).fits fits
 
-module_item_goes : {us ts : List Lexeme} {x : Grown} → IsModuleItem open_beside us ts x → x.height ≤ max_depth → (l n : ℕ) → whole_module_item (inp (us ++ ts) l n) ≡ done x (inp ts (end_after l us) n)
+module_item_goes : {us ts : List Lexeme} {x : Grown} → IsModuleItem open_in_item us ts x → x.height ≤ max_depth → (l n : ℕ) → whole_module_item (inp (us ++ ts) l n) ≡ done x (inp ts (end_after l us) n)
 unfolding whole_module_item
-module_item_goes {us} {ts} h fits l n = module_item_at open_beside (inp (us ++ ts) l n) ∙ (module_item_read h ts l n refl).fits fits
+module_item_goes {us} {ts} h fits l n = (module_item_read h ts l n refl).fits fits
 
 -- ---- the end of the text
 

@@ -9,14 +9,15 @@ use Rattle.sr_syntax.specs.Input.{Input, Outcome, Parser, ◌>>=◌, pure, start
 use Rattle.sr_syntax.specs.Grammar.{whole_item, whole_module_item, script_from, script, script_of, module_from, module_items, module_of, value_of}
 use Rattle.sr_grammar.specs.Derivations.{IsItem}
 use Rattle.sr_grammar.specs.Modules.{IsModuleItem}
-use Rattle.sr_grammar.specs.Scripts.{open_beside, Script, Module, module_ended, module_item}
+use Rattle.sr_grammar.specs.Scripts.{open_in_item, Script, Module, module_ended, module_item}
 use Rattle.sr_grammar.specs.Scripts as s
 use Rattle.sr_grammar.specs.Laws.{SoundScript, SoundModule}
 use Rattle.sr_grammar.specs.Reading.{end_after}
 use Rattle.sr_grammar.proofs.Steps.{inp, done, along, bind_ok, same_sort_true, Any, Parses}
-use Rattle.sr_grammar.proofs.Facts.{Relation, OpenedOne, opened_one, StartOne}
+use Rattle.sr_grammar.proofs.Facts.{Relation, Stood, stood, StartOne}
 use Rattle.sr_grammar.proofs.Nests.{nests}
-use Rattle.sr_grammar.proofs.ModuleItems.{opened_module_items}
+use Rattle.sr_grammar.proofs.PlainItems.{items_of}
+use Rattle.sr_grammar.proofs.ModuleItems.{module_items_of}
 
 -- ---- one item
 
@@ -25,14 +26,14 @@ record OneRead (Is : Relation) (l n : ℕ) (all : List Lexeme) (x : Grown) (j : 
   ts : List Lexeme
   split : all ≡ us ++ ts
   left : j ≡ inp ts (end_after l us) n
-  is : Is open_beside us ts x
+  is : Is open_in_item us ts x
   fits : x.height ≤ max_depth
 
-one_reads : {Is : Relation} {P : ℕ → Parser Grown} → Parses P (suc open_beside) Any (OpenedOne Is (suc open_beside)) (StartOne Is)
-    → (l n : ℕ) (all : List Lexeme) (x : Grown) (j : Input) → P (suc open_beside) (inp all l n) ≡ done x j → OneRead Is l n all x j
+one_reads : {Is : Relation} {P : ℕ → Parser Grown} → Parses P open_in_item Any (Stood Is open_in_item) (StartOne Is)
+    → (l n : ℕ) (all : List Lexeme) (x : Grown) (j : Input) → P open_in_item (inp all l n) ≡ done x j → OneRead Is l n all x j
 one_reads {Is} {P} p l n all x j h =
     let r = p.reads l n all x j tt h in
-    elim r.fact [ opened_one is fits ↦ record { us = r.us; ts = r.ts; split = r.split; left = r.left; is = is; fits = fits } ]
+    elim r.fact [ stood is fits ↦ record { us = r.us; ts = r.ts; split = r.split; left = r.left; is = is; fits = fits } ]
 
 -- ---- items to the end of the text
 
@@ -42,7 +43,7 @@ module _ (one : Parser Grown) (rule : ℕ → List Tree → Parser (List Tree)) 
     (turns : (m : ℕ) (found : List Tree) (ts : List Lexeme) (l n : ℕ) → rule (suc m) found (inp ts l n)
     ≡ (if same_sort (sort_at ts) k.End then pure found else (one >>= (λ x. rule m (found ++ x.tree ∷ [])))) (inp ts l n))
     (at_end : (ts : List Lexeme) → sort_at ts ≡ k.End → Text ts [])
-    (one_more : (us ts : List Lexeme) (x : Grown) (xs : List Tree) → Is open_beside us ts x → x.height ≤ max_depth → Text ts xs → Text (us ++ ts) (x.tree ∷ xs)) where
+    (one_more : (us ts : List Lexeme) (x : Grown) (xs : List Tree) → Is open_in_item us ts x → x.height ≤ max_depth → Text ts xs → Text (us ++ ts) (x.tree ∷ xs)) where
   -- what was read before, and a text of the rest
   record Found (found : List Tree) (ts : List Lexeme) (all : List Tree) : Type 0 where
     trees : List Tree
@@ -86,7 +87,7 @@ no_script_turns found i j all h = cc
 
 item_reads : (l n : ℕ) (all : List Lexeme) (x : Grown) (j : Input) → whole_item (inp all l n) ≡ done x j → OneRead IsItem l n all x j
 unfolding whole_item
-item_reads l n all x j h = one_reads ((nests (suc open_beside)).item) l n all x j h
+item_reads l n all x j h = one_reads (items_of open_in_item (nests open_in_item)) l n all x j h
 
 pub sound_script_law : SoundScript
 unfolding script_of script
@@ -107,7 +108,7 @@ no_module_turns found i j all h = cc
 
 module_item_reads : (l n : ℕ) (all : List Lexeme) (x : Grown) (j : Input) → whole_module_item (inp all l n) ≡ done x j → OneRead IsModuleItem l n all x j
 unfolding whole_module_item
-module_item_reads l n all x j h = one_reads (opened_module_items (suc open_beside)) l n all x j h
+module_item_reads l n all x j h = one_reads (module_items_of open_in_item (nests open_in_item)) l n all x j h
 
 pub sound_module_law : SoundModule
 unfolding module_of module_items

@@ -30,7 +30,8 @@ use Rattle.sr_syntax.specs.Input.{text_of, number_of, is_word, place_at, sort_at
 use Rattle.sr_syntax.specs.Operators.{prefix, update_before, update_after, assignment, row, admits, bit_or_row, or_row, joined_node, from_of, is_target, gives_name, is_bare_new, link_in, tallest, none, with, no_elements, with_value, with_spread, with_hole, one_piece, with_piece, nothing, part_of, statement_node}
 use Rattle.sr_syntax.specs.Objects.{is_proto, no_properties, with_property}
 use Rattle.sr_syntax.specs.Expressions.{expression}
-use Rattle.sr_syntax.specs.Statements.{declaring, declarations, no_cases, with_case, with_default}
+use Rattle.sr_syntax.specs.Declarations.{declaring, declarations}
+use Rattle.sr_syntax.specs.Statements.{no_cases, with_case, with_default}
 use Rattle.sr_syntax.specs.Grammar.{tree}
 use Rattle.sr_grammar.specs.Reading.{end_after, EndsThere}
 use Rattle.sr_grammar.specs.Names.{binding_of, is_text, is_arrow, is_label, declaring_word, lexical_word, Params, ArrowHead, key_of, CatchParameter}
@@ -382,7 +383,7 @@ mutual
         → Clauses d (us ++ t ∷ u ∷ ws) ts (with_default all xs)
 
   -- The tokens are a statement before those that follow, of which only the first one matters, and make the tree, where so many
-  -- more rules may be open at once: while a statement or an item is read it is open.
+  -- more rules may be open at once: while a statement is read it is open.
   pub data States : ℕ → List Lexeme → List Lexeme → Grown → Type 0 where
     -- Expression ";", where the expression begins with no `{`, `function` or label (14.5)
     expression_statement : {d : ℕ} {us vs ts : List Lexeme} {x : Grown}
@@ -487,9 +488,10 @@ mutual
     labelled : {d : ℕ} {us ts : List Lexeme} {x : Grown} (t u : Lexeme) → t.sort ≡ k.Identifier → same_sort t.ahead k.Colon ≡ true → u.sort ≡ k.Colon → States d us ts x
         → States (suc d) (t ∷ u ∷ us) ts (whole (n.Labelled (text_of t.content) x.tree) t.from (t ∷ u ∷ us) x.height)
 
-  -- Item = Function | Lexical | Statement (14)
+  -- Item = Function | Lexical | Statement, where so many more rules may be open at once: an item that is a statement is open
+  -- while it is read, and another one is not (14).
   pub data IsItem : ℕ → List Lexeme → List Lexeme → Grown → Type 0 where
-    statement : {d : ℕ} {us ts : List Lexeme} {x : Grown} → States d us ts x → IsItem d us ts x
+    statement : {d : ℕ} {us ts : List Lexeme} {x : Grown} → States d us ts x → IsItem (suc d) us ts x
     -- "function" Name "(" Params ")" Body (15.2)
     function_item : {d : ℕ} {us ts : List Lexeme} {ps : Parameters} {xs : Grove} (t u : Lexeme) → t.sort ≡ k.Function → u.sort ≡ k.Identifier → Function d us ps xs
         → IsItem d (t ∷ u ∷ us) ts (whole (n.FunctionDeclaration (Some (binding_of u)) ps xs.trees) t.from (t ∷ u ∷ us) xs.tall)
@@ -502,4 +504,4 @@ mutual
   pub data Items : ℕ → List Lexeme → List Lexeme → Grove → Type 0 where
     no_items : {d : ℕ} {ts : List Lexeme} → Items d [] ts none
     one_more_item : {d : ℕ} {us vs ts : List Lexeme} {xs : Grove} {x : Grown}
-        → Items (suc d) us (vs ++ ts) xs → IsItem d vs ts x → Items (suc d) (us ++ vs) ts (with xs x)
+        → Items d us (vs ++ ts) xs → IsItem d vs ts x → Items d (us ++ vs) ts (with xs x)

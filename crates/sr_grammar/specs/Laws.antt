@@ -3,10 +3,12 @@ use Rattle.std.specs.Prelude.{◌≡◌, ℕ, suc, Bool, true, ◌≤◌, ◌<�
 use Rattle.sr_ast.specs.declared.tree.Tree.{Tree}
 use Rattle.sr_syntax.specs.declared.sorts.Lexeme.{Lexeme}
 use Rattle.sr_syntax.specs.declared.grown.Grown.{Grown}
-use Rattle.sr_syntax.specs.declared.grown.Goal.{Goal}
+use Rattle.sr_syntax.specs.declared.grown.Goal.TheVariants as goal
 use Rattle.sr_syntax.specs.declared.refusal.Refusal.TheVariants.{Syntax, TooDeep}
-use Rattle.sr_syntax.specs.Input.{Input, start, place_at, max_depth}
+use Rattle.sr_syntax.specs.Input.{Input, Parser, start, place_at, max_depth}
 use Rattle.sr_syntax.specs.Expressions.{expression}
+use Rattle.sr_syntax.specs.Statements.{item}
+use Rattle.sr_syntax.specs.Modules.{module_item}
 use Rattle.sr_syntax.specs.Grammar.{tree, script_of, module_of}
 use Rattle.sr_grammar.specs.Reading.{end_after}
 use Rattle.sr_grammar.specs.Derivations.{Derives, Expression}
@@ -68,36 +70,56 @@ abbrev pub Longest : Type 0
 Longest = (d size : ℕ) (ts : List Lexeme) (x : Grown) (i : Input) → expression (tree d) true (start ts size) ≡ Ok (x, i)
     → (us : List Lexeme) × (ts ≡ us ++ i.rest) × Derives d (Expression true) us x × Stops us i.rest
 
--- ---- statements, items, and items of modules: each goal with its relation
+-- ---- statements, items, and items of modules: each rule with its relation
+
+-- a rule, where so many more may be open at once
+abbrev pub Rule : Type 0
+Rule = ℕ → Parser Grown
+
+-- a statement, which is open itself
+abbrev pub a_statement : Rule
+a_statement d = tree (suc d) goal.Statement
+
+-- a statement, which counts among those that may be open
+abbrev pub a_nested_statement : Rule
+a_nested_statement d = tree d goal.Statement
+
+-- an item, which is not open itself, or only as a statement
+abbrev pub an_item : Rule
+an_item d = item (tree d)
+
+-- an item of a module, in the same way
+abbrev pub a_module_item : Rule
+a_module_item d = module_item (tree d)
 
 -- a relation between tokens, those that follow, and a tree, where so many more rules may be open at once
 abbrev pub Relation : Type 1
 Relation = ℕ → List Lexeme → List Lexeme → Grown → Type 0
 
 -- What is read is one before what follows, and is not deeper than the greatest depth.
-abbrev pub SoundAs : Goal → Relation → Type 0
-SoundAs goal Is = (d size : ℕ) (ts : List Lexeme) (x : Grown) (i : Input) → tree (suc d) goal (start ts size) ≡ Ok (x, i)
+abbrev pub SoundAs : Rule → Relation → Type 0
+SoundAs rule Is = (d size : ℕ) (ts : List Lexeme) (x : Grown) (i : Input) → rule d (start ts size) ≡ Ok (x, i)
     → (us : List Lexeme) × (ts ≡ us ++ i.rest) × Is d us i.rest x × (x.height ≤ max_depth)
 
 -- What is one before what follows and is not deeper than the greatest depth is read, with that tree.
-abbrev pub CompleteAs : Goal → Relation → Type 0
-CompleteAs goal Is = (d size : ℕ) (us rest : List Lexeme) (x : Grown) → Is d us rest x → x.height ≤ max_depth
-    → tree (suc d) goal (start (us ++ rest) size) ≡ Ok (x, behind us rest size)
+abbrev pub CompleteAs : Rule → Relation → Type 0
+CompleteAs rule Is = (d size : ℕ) (us rest : List Lexeme) (x : Grown) → Is d us rest x → x.height ≤ max_depth
+    → rule d (start (us ++ rest) size) ≡ Ok (x, behind us rest size)
 
 -- What is one before what follows and is deeper than the greatest depth is too deep.
-abbrev pub TooTallAs : Goal → Relation → Type 0
-TooTallAs goal Is = (d size : ℕ) (us rest : List Lexeme) (x : Grown) → Is d us rest x → max_depth < x.height
-    → tree (suc d) goal (start (us ++ rest) size) ≡ Err TooDeep
+abbrev pub TooTallAs : Rule → Relation → Type 0
+TooTallAs rule Is = (d size : ℕ) (us rest : List Lexeme) (x : Grown) → Is d us rest x → max_depth < x.height
+    → rule d (start (us ++ rest) size) ≡ Err TooDeep
 
 -- Tokens have one tree at the most before what follows, if one that is not deeper than the greatest depth.
 abbrev pub UniqueAs : Relation → Type 0
 UniqueAs Is = (d e : ℕ) (us rest : List Lexeme) (x y : Grown) → Is d us rest x → x.height ≤ max_depth → Is e us rest y → x ≡ y
 
 -- Where more rules may be open, what was read is read again, and what failed fails at the same place.
-abbrev pub MoreOpenAs : Goal → Type 0
-MoreOpenAs goal = (d e size : ℕ) (ts : List Lexeme) → d ≤ e
-    → ((x : Grown) (i : Input) → tree d goal (start ts size) ≡ Ok (x, i) → tree e goal (start ts size) ≡ Ok (x, i))
-    × ((place : ℕ) → tree d goal (start ts size) ≡ Err (Syntax place) → tree e goal (start ts size) ≡ Err (Syntax place))
+abbrev pub MoreOpenAs : Rule → Type 0
+MoreOpenAs rule = (d e size : ℕ) (ts : List Lexeme) → d ≤ e
+    → ((x : Grown) (i : Input) → rule d (start ts size) ≡ Ok (x, i) → rule e (start ts size) ≡ Ok (x, i))
+    × ((place : ℕ) → rule d (start ts size) ≡ Err (Syntax place) → rule e (start ts size) ≡ Err (Syntax place))
 
 -- The tokens begin one: they and more are one before some that follow.
 abbrev pub BeginsAs : Relation → List Lexeme → Type 0
@@ -110,8 +132,8 @@ EndedAs Is us (t ∷ ts) = (e : ℕ) (vs rest : List Lexeme) (x : Grown) → Is 
 
 -- Where reading fails, the tokens before the place begin one; and those up to the token at the place, or to the end, begin
 -- none, however much it may have open and however deep it is.
-abbrev pub FirstFaultAs : Goal → Relation → Type 0
-FirstFaultAs goal Is = (d size place : ℕ) (ts : List Lexeme) → tree (suc d) goal (start ts size) ≡ Err (Syntax place)
+abbrev pub FirstFaultAs : Rule → Relation → Type 0
+FirstFaultAs rule Is = (d size place : ℕ) (ts : List Lexeme) → rule d (start ts size) ≡ Err (Syntax place)
     → (us rest : List Lexeme) × (ts ≡ us ++ rest) × (place ≡ place_at size rest) × BeginsAs Is us × EndedAs Is us rest
 
 -- ---- whole texts

@@ -16,7 +16,7 @@ use Rattle.sr_syntax.specs.declared.grown.Grove.{Grove}
 use Rattle.sr_syntax.specs.Sorts.{same_sort}
 use Rattle.sr_syntax.specs.Input.{text_of, is_word, sort_at}
 use Rattle.sr_syntax.specs.Expressions.{assign}
-use Rattle.sr_syntax.specs.Statements.{declaring, declarations}
+use Rattle.sr_syntax.specs.Declarations.{declaring, declarations}
 use Rattle.sr_syntax.specs.Grammar.{tree}
 use Rattle.sr_grammar.specs.Reading.{EndsThere}
 use Rattle.sr_grammar.specs.Names.{binding_of, is_text, declaring_word}

@@ -3,10 +3,9 @@
 //! The relation and the laws stand in `specs/`. Each function here is a law: it does nothing, and its contract is proved.
 #![tactic(auto)]
 
-ghost use Rattle.sr_syntax.specs.declared.grown.Goal.TheVariants as goal;
 ghost use Rattle.sr_grammar.specs.Derivations.{IsItem, States};
 ghost use Rattle.sr_grammar.specs.Modules.{IsModuleItem};
-ghost use Rattle.sr_grammar.specs.Laws.{Complete, CompleteAs, CompleteModule, CompleteScript, FirstFault, FirstFaultAs, Longest, MoreOpen, MoreOpenAs, OpensTooMany, Sound, SoundAs, SoundModule, SoundScript, TooTall, TooTallAs, Unique, UniqueAs};
+ghost use Rattle.sr_grammar.specs.Laws.{a_module_item, a_nested_statement, a_statement, an_item, Complete, CompleteAs, CompleteModule, CompleteScript, FirstFault, FirstFaultAs, Longest, MoreOpen, MoreOpenAs, OpensTooMany, Sound, SoundAs, SoundModule, SoundScript, TooTall, TooTallAs, Unique, UniqueAs};
 
 /// What is read as an expression is one, and is no deeper than is read.
 pub fn what_is_read_derives()
@@ -50,23 +49,23 @@ pub fn as_much_as_can_be_is_read()
 
 /// What is read as a statement, an item or an item of a module is one before what follows, and is no deeper than is read.
 pub fn what_is_read_is_one()
-    ensures statements { SoundAs goal.Statement States }
-    ensures items { SoundAs goal.Item IsItem }
-    ensures module_items { SoundAs goal.ModuleItem IsModuleItem }
+    ensures statements { SoundAs a_statement States }
+    ensures items { SoundAs an_item IsItem }
+    ensures module_items { SoundAs a_module_item IsModuleItem }
 {}
 
 /// A statement, an item or an item of a module that is no deeper than is read is read, with its tree.
 pub fn what_is_one_is_read()
-    ensures statements { CompleteAs goal.Statement States }
-    ensures items { CompleteAs goal.Item IsItem }
-    ensures module_items { CompleteAs goal.ModuleItem IsModuleItem }
+    ensures statements { CompleteAs a_statement States }
+    ensures items { CompleteAs an_item IsItem }
+    ensures module_items { CompleteAs a_module_item IsModuleItem }
 {}
 
 /// One that is deeper is too deep.
 pub fn one_that_is_deeper_is_too_deep()
-    ensures statements { TooTallAs goal.Statement States }
-    ensures items { TooTallAs goal.Item IsItem }
-    ensures module_items { TooTallAs goal.ModuleItem IsModuleItem }
+    ensures statements { TooTallAs a_statement States }
+    ensures items { TooTallAs an_item IsItem }
+    ensures module_items { TooTallAs a_module_item IsModuleItem }
 {}
 
 /// Tokens are one at the most before what follows, if one that is no deeper than is read.
@@ -78,16 +77,16 @@ pub fn tokens_are_one_at_most()
 
 /// Where more rules may be open at once, only what was too deep can have another answer.
 pub fn more_open_changes_only_ones_that_were_too_deep()
-    ensures statements { MoreOpenAs goal.Statement }
-    ensures items { MoreOpenAs goal.Item }
-    ensures module_items { MoreOpenAs goal.ModuleItem }
+    ensures statements { MoreOpenAs a_nested_statement }
+    ensures items { MoreOpenAs an_item }
+    ensures module_items { MoreOpenAs a_module_item }
 {}
 
 /// The place of a failure is the first token that cannot continue a statement, an item or an item of a module.
 pub fn the_first_fault_of_one_is_found()
-    ensures statements { FirstFaultAs goal.Statement States }
-    ensures items { FirstFaultAs goal.Item IsItem }
-    ensures module_items { FirstFaultAs goal.ModuleItem IsModuleItem }
+    ensures statements { FirstFaultAs a_statement States }
+    ensures items { FirstFaultAs an_item IsItem }
+    ensures module_items { FirstFaultAs a_module_item IsModuleItem }
 {}
 
 /// What is read as a script or a module is one.
