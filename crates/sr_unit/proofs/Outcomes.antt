@@ -4,8 +4,8 @@ use Rattle.sr_ast.specs.declared.tree.Tree.{Tree}
 use Rattle.sr_syntax.specs.declared.refusal.Refusal.{Refusal}
 use Rattle.sr_syntax.specs.declared.refusal.Refusal.TheVariants.{Memory}
 use Rattle.sr_parse.specs.Laws as parse
-use Rattle.sr_unit.specs.declared.unit.Goal.{Goal}
-use Rattle.sr_unit.specs.declared.unit.Goal.TheVariants as goal
+use Rattle.sr_text.specs.declared.goal.Goal.{Goal}
+use Rattle.sr_text.specs.declared.goal.Goal.TheVariants as goal
 use Rattle.sr_unit.specs.declared.unit.Unit.{Unit}
 use Rattle.sr_unit.specs.Units.{unit_of, mapped, reads_as, IsUnit}
 use Rattle.sr_unit.specs.Laws.{OneUnit, EachUnit}

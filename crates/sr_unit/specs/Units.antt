@@ -6,8 +6,8 @@ use Rattle.sr_ast.specs.declared.tree.Element.TheOpen as layer
 use Rattle.sr_ast.specs.Layer.{Layer, layer_of}
 use Rattle.sr_syntax.specs.declared.refusal.Refusal.{Refusal}
 use Rattle.sr_parse.specs.Readings.{IsScript, IsModule}
-use Rattle.sr_unit.specs.declared.unit.Goal.{Goal}
-use Rattle.sr_unit.specs.declared.unit.Goal.TheVariants as goal
+use Rattle.sr_text.specs.declared.goal.Goal.{Goal}
+use Rattle.sr_text.specs.declared.goal.Goal.TheVariants as goal
 use Rattle.sr_unit.specs.declared.unit.Unit.{Unit}
 use Rattle.sr_unit.specs.Numbers.{numbered_all}
 

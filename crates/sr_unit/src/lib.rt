@@ -11,12 +11,11 @@ mod numbers;
 mod reading;
 /// What a unit is.
 pub mod unit;
-/// Words in texts.
-mod words;
 
 pub use reading::{parse_module, parse_script};
 pub use sr_syntax::refusal::Refusal;
-pub use unit::{Goal, Unit};
+pub use sr_text::Goal;
+pub use unit::Unit;
 
 #[cfg(test)]
 mod tests;

@@ -1,16 +1,15 @@
 ghost use Rattle.std.specs.Prelude.{◌≡◌, ◌≢◌, IfOk, Err};
 ghost use Rattle.sr_syntax.specs.declared.refusal.Refusal.TheVariants.{Memory};
-ghost use Rattle.sr_unit.specs.declared.unit.Goal.TheVariants as goal;
+ghost use Rattle.sr_text.specs.declared.goal.Goal.TheVariants as goal;
 ghost use Rattle.sr_unit.specs.Units as spec;
 ghost use Rattle.sr_unit.specs.Units.{IsUnit};
 
 use crate::numbers::trees;
-use crate::unit::{Goal, Unit};
-use crate::words::is;
+use crate::unit::Unit;
 use sr_ast::{Node, Tree};
 use sr_shared::Shared;
 use sr_syntax::refusal::Refusal;
-use sr_text::Str;
+use sr_text::{Goal, Str, spells};
 use std::alloc::{AllocError, Global};
 
 /// How many code units the directive has, with its quotes.
@@ -23,7 +22,8 @@ fn is_use_strict(tree: &Tree) -> bool
 {
     match &tree.node {
         Node::Text(value) => {
-            is(value.units(), b"use strict") && tree.to.saturating_sub(tree.from) == DIRECTIVE_UNITS
+            spells(value.units(), b"use strict")
+                && tree.to.saturating_sub(tree.from) == DIRECTIVE_UNITS
         }
         _ => false,
     }

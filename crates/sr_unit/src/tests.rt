@@ -6,6 +6,9 @@ use std::alloc::{AllocError, Global};
 use std::fmt::Write;
 use std::test::Fail;
 
+/// Each first part of a program.
+mod prefixes;
+
 /// Texts of scripts, whether they are strict, and their trees in order, each with its number and its place.
 const TEXTS: [(&str, bool, &str); 13] = [
     ("", false, ""),

@@ -1,15 +1,7 @@
 use sqlite_items::Items;
 use sr_ast::Tree;
 use sr_shared::Shared;
-
-/// What a text is read as (ECMA-262 16).
-#[derive(Clone, Copy, Debug, PartialEq, Eq)]
-pub enum Goal {
-    /// A script.
-    Script,
-    /// A module.
-    Module,
-}
+use sr_text::Goal;
 
 /// A script or a module (ECMA-262 16.1, 16.2).
 #[derive(Drop)]
