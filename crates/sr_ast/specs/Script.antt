@@ -2,8 +2,7 @@
 use Rattle.std.specs.Prelude.{ℕ, List}
 use Rattle.sr_ast.specs.declared.tree.Tree.{Tree}
 
--- its statements, the names that it declares by `var` in order, and how many code units its text has
+-- its statements, and the names that it declares by `var` in order
 pub record Script : Type 0 where
   pub body : List Tree
   pub names : List (List ℕ)
-  pub units : ℕ

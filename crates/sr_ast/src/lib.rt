@@ -9,6 +9,10 @@ mod code;
 mod module;
 /// The operators.
 mod operators;
+/// What a text is as it is read.
+mod reading;
+/// Why a text is no unit.
+mod refused;
 /// A script.
 mod script;
 /// The trees.
@@ -18,5 +22,7 @@ pub use binding::{Binding, HeadBinding, HeadKind, LexicalKind, Parameters, Prope
 pub use code::Code;
 pub use module::{ExportName, ImportName, Imports};
 pub use operators::{AssignOp, BinaryOp, Link, LogicalOp, UnaryOp, UpdateOp};
+pub use reading::{Reading, SourceCode};
+pub use refused::Refused;
 pub use script::ScriptCode;
 pub use tree::{Case, Declaration, Element, Node, Property, Tree};

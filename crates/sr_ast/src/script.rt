@@ -9,11 +9,10 @@ use sr_text::Str;
 use std::alloc::{AllocError, Global};
 use std::marker::Model;
 
-/// A script (ECMA-262 16.1): its statements, the names that it declares by `var`, and the code units of its text.
+/// A script (ECMA-262 16.1): its statements, and the names that it declares by `var`.
 pub struct ScriptCode {
     body: Shared<Items<Shared<Tree>>>,
     names: Shared<Items<Str>>,
-    units: usize,
 }
 
 impl Model for ScriptCode {
@@ -26,36 +25,30 @@ impl Model for ScriptCode {
 
     ghost coded = { Prim.hlevel (codes, kind.the_row.coded) };
 
-    ghost view = { λ s. record { body = s.body; names = s.names; units = s.units } };
+    ghost view = { λ s. record { body = s.body; names = s.names } };
 }
 
 // Written by hand, so that the crates above prove nothing of how the kinds of trees are dropped.
 impl Drop for ScriptCode {
     fn drop(self) {
-        let ScriptCode {
-            body,
-            names,
-            units: _,
-        } = self;
+        let ScriptCode { body, names } = self;
         drop(body);
         drop(names);
     }
 }
 
 impl ScriptCode {
-    /// A script of these statements, which declares these names by `var`, and whose text has so many code units.
+    /// A script of these statements, which declares these names by `var`.
     pub fn new(
         alloc: Global,
         body: Items<Shared<Tree>>,
         names: Items<Str>,
-        units: usize,
     ) -> Result<ScriptCode, AllocError>
-        ensures { IfOk result (λ s. s ≡ record { body = body; names = names; units = units }) }
+        ensures { IfOk result (λ s. s ≡ record { body = body; names = names }) }
     {
         Ok(ScriptCode {
             body: Shared::new(alloc, body)?,
             names: Shared::new(alloc, names)?,
-            units,
         })
     }
 
@@ -73,13 +66,6 @@ impl ScriptCode {
         self.names.get().as_slice()
     }
 
-    /// How many code units the text has.
-    pub fn units(&self) -> usize
-        ensures { result ≡ self.now.units }
-    {
-        self.units
-    }
-
     /// One more owner of the script, which is not copied.
     pub fn share(&self) -> Result<ScriptCode, AllocError>
         ensures { IfOk result (λ s. s ≡ self.now) }
@@ -87,7 +73,6 @@ impl ScriptCode {
         Ok(ScriptCode {
             body: self.body.share()?,
             names: self.names.share()?,
-            units: self.units,
         })
     }
 }

@@ -1,6 +1,5 @@
 pub mod Gaining
 pub mod Asked
-pub mod Built
 pub mod Turning
 pub mod Running
 pub mod RunEnds

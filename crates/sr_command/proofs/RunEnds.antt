@@ -1,16 +1,16 @@
--- How the loop over frames ends, against the run of the script.
+-- How the loop over frames ends, against the run of the file.
 use Rattle.std.proofs.Common.{◌≡◌, ℕ, ◌++◌, List, [], ◌∷◌, map, take, Option, None, Some, Result, Err, refl, sym, ap, subst, ◌∙◌, append_assoc}
 use Rattle.std.proofs.lemmas.List.{map-append}
 use Rattle.sr_outside.specs.declared.sink.WriteRefusal.{WriteRefusal}
 use Rattle.sr_outside.specs.declared.sink.WriteRefusal.TheVariants.{Failed, Memory}
-use Rattle.sr_ast.specs.Script.{Script}
-use Rattle.sr_model.specs.Values.{Path, root}
+use Rattle.sr_ast.specs.declared.reading.Reading.{Reading}
+use Rattle.sr_model.specs.Values.{Text, Path, root}
+use Rattle.sr_model.specs.Outcomes.{StringLength}
 use Rattle.sr_model.specs.World as worlds
 use Rattle.sr_model.specs.Globals.{Holds}
 use Rattle.sr_worlds.specs.Evaluation.{Done, Over}
 use Rattle.sr_worlds.specs.Live.{Why, Stopped, Steps, Open, Broken, Short, LiveRan}
 use Rattle.sr_conv.specs.Plain.{value_of}
-use Rattle.sr_conv.specs.Reports.{report}
 use Rattle.sr_state.specs.declared.frame.Frame as code
 use Rattle.sr_state.specs.declared.ends.Answer.{Answer}
 use Rattle.sr_state.specs.declared.ends.Answer.TheVariants as answer
@@ -21,16 +21,18 @@ use Rattle.sr_state.specs.declared.ends.StopName.{StopName}
 use Rattle.sr_state.specs.declared.ends.StopName.TheVariants as stop
 use Rattle.sr_state.specs.Held.{Held, Side}
 use Rattle.sr_machine.proofs.Grows.{Starts, rest_grows}
+use Rattle.sr_machine.specs.Language.{throw_report}
 use Rattle.sr_machine.specs.Rest.{Waiting, world_of, StandFor, Rest, ended}
 use Rattle.sr_machine.specs.Going.{line_of, Ready, IsWhy}
 use Rattle.sr_machine.specs.Running.{thrown_of, BreaksOff}
 use Rattle.sr_machine.specs.Running as running
 use Rattle.sr_machine.specs.declared.live.StopAt.{StopAt}
 use Rattle.sr_command.specs.declared.status.Status.{Status}
-use Rattle.sr_command.specs.Writes.{Write, out, err, IsCut, here, later, first_bytes, streams}
-use Rattle.sr_command.specs.Courses.{Course, write_of, last_of, stop_text, stopped, over_course, course_of}
+use Rattle.sr_command.specs.declared.status.Status.TheVariants as status
+use Rattle.sr_command.specs.Writes.{Write, out, err, Streams, IsCut, here, later, first_bytes, streams}
+use Rattle.sr_command.specs.Courses.{Course, line_ending, write_of, last_of, stop_name, stop_text, stopped, over_course, course_of}
 use Rattle.sr_command.specs.Stops.{name_in_line, stop_status, stop_line, stop_ending, last_ending}
-use Rattle.sr_command.specs.Runs.{script_run, RunsScript}
+use Rattle.sr_command.specs.Runs.{too_long, reading_run, RunsReading}
 use Rattle.sr_command.specs.Reaching.{ComesTo, Reaches}
 use Rattle.sr_command.proofs.Gaining.{gains_both, out_gains}
 use Rattle.sr_command.proofs.Reached.{reached}
@@ -45,7 +47,12 @@ cut_in (x ∷ pre) n write more = later (cut_in pre n write more)
 stop_line_is : (name : List ℕ) (source at : ℕ) → stop_text name root (record { source = source; at = at }) ++ 0x0A ∷ [] ≡ stop_line name source at
 stop_line_is name source at = simp append_assoc
 
-module _ (bound : ℕ) (name text : List ℕ) (x : Script) where
+-- the stop of a text that is too long for a string
+pub too_long_comes : (r : Result Status WriteRefusal) (old new : Streams) → ComesTo (line_ending status.Stopped (stop_line (stop_name StringLength) 0 0)) r old new → ComesTo too_long r old new
+too_long_comes r old new comes =
+    subst (λ (line : List ℕ). ComesTo (line_ending status.Stopped line) r old new) (sym (stop_line_is (stop_name StringLength) 0 0)) comes
+
+module _ (bound : ℕ) (name text : List ℕ) (x : Reading) where
   abbrev T : List worlds.Write → Side → worlds.World Holds
   T w side = world_of (tape bound name text x) w side
 
@@ -56,6 +63,8 @@ module _ (bound : ℕ) (name text : List ℕ) (x : Script) where
   why_is (stop.Number s) why w side is = rw (is.1, ← is.2) refl
   why_is stop.StringLength why w side is = rw (is.1, ← is.2) refl
   why_is stop.CallDepth why w side is = rw (is.1, ← is.2) refl
+  why_is stop.SyntaxDepth why w side is = rw (is.1, ← is.2) refl
+  why_is (stop.Unsupported m at) why w side is = rw (is.1, ← is.2) refl
 
   -- the course of a run begins with what was written
   abbrev At : List worlds.Write → LiveRan Holds → Type 0
@@ -86,7 +95,7 @@ module _ (bound : ℕ) (name text : List ℕ) (x : Script) where
       (finish_grows (read bound name text x) bound name j w (Rest (read bound name text x) (tape bound name text x) w h tasks m) (rest_grows (read bound name text x) (tape bound name text x) w h tasks m))
 
   module _ (h : Held) (before now : Option (List ℕ)) (u : Under bound name text x h before now) where
-    pub starved : (after : Option (List ℕ)) → after ≡ now → (e : Option (List ℕ)) → Reaches (RunsScript bound name text x) (Err Memory) (streams before e) (streams after e)
+    pub starved : (after : Option (List ℕ)) → after ≡ now → (e : Option (List ℕ)) → Reaches (RunsReading bound name text x) (Err Memory) (streams before e) (streams after e)
     starved after same e =
         let s = u.same 0 in
         let w : List worlds.Write = map worlds.Printed u.printed in
@@ -94,7 +103,7 @@ module _ (bound : ℕ) (name text : List ℕ) (x : Script) where
         rw same
         (reached (course_of bound (finish bound name text x s.0 (Rest (read bound name text x) (tape bound name text x) w h u.tasks 0))) (s.0, ap (course_of bound) s.2) (lines u.printed, (z.0, z.1), lines_gained u.printed before now e u.gained))
 
-    pub broken : (after : Option (List ℕ)) → BreaksOff (read bound name text x) h now after → (e : Option (List ℕ)) → Reaches (RunsScript bound name text x) (Err Failed) (streams before e) (streams after e)
+    pub broken : (after : Option (List ℕ)) → BreaksOff (read bound name text x) h now after → (e : Option (List ℕ)) → Reaches (RunsReading bound name text x) (Err Failed) (streams before e) (streams after e)
     broken after breaks e =
         let b = breaks u.tasks u.stack in
         let line = b.0 in
@@ -117,7 +126,7 @@ module _ (bound : ℕ) (name text : List ℕ) (x : Script) where
     abbrev then_ending : Course → Course
     then_ending tail = record { writes = lines u.printed ++ tail.writes; status = tail.status }
 
-    stop_course : (new : Held) (s : StopAt) → running.Stopped (read bound name text x) s h new → RunsScript bound name text x (then_ending (stop_ending bound s))
+    stop_course : (new : Held) (s : StopAt) → running.Stopped (read bound name text x) s h new → RunsReading bound name text x (then_ending (stop_ending bound s))
     stop_course new s stops =
         let q = stops.0 u.tasks u.stack in
         let w : List worlds.Write = map worlds.Printed u.printed in
@@ -130,35 +139,42 @@ module _ (bound : ℕ) (name text : List ℕ) (x : Script) where
         (i.0, ap (course_of bound) (i.2 ∙ ap (finish bound name text x i.0) j.2) ∙ why_is s.name q.0 w new.side q.2 ∙ ap (λ l. let c : Course = record { writes = lines u.printed ++ err l ∷ []; status = Some (stop_status s.name) } in c) line)
 
     ended_course : (j : ℕ) (side : Side) (o : Completion)
-        → course_of bound (finish bound name text x j (ended (read bound name text x) (T (map worlds.Printed u.printed) side) (answer.Done o) 1)) ≡ then_ending (last_ending name (thrown_of (answer.Done o)))
+        → course_of bound (finish bound name text x j (ended (read bound name text x) (T (map worlds.Printed u.printed) side) (answer.Done o) 1)) ≡ then_ending (last_ending name (thrown_of side.realm (answer.Done o)))
     ended_course j side (completion.Normal v) = ended_after u.printed [] (last_ending name None) refl refl
-    ended_course j side (completion.Abrupt (abrupt.Throw v)) = ended_after u.printed (worlds.Uncaught name (report (value_of v)) ∷ []) (last_ending name (Some (report (value_of v)))) refl refl
+    ended_course j side (completion.Abrupt (abrupt.Throw v)) = ended_after u.printed (worlds.Uncaught name (throw_report side.realm (value_of v)) ∷ []) (last_ending name (Some (throw_report side.realm (value_of v)))) refl refl
     ended_course j side (completion.Abrupt (abrupt.Return v)) = ended_after u.printed [] (last_ending name None) refl refl
     ended_course j side (completion.Abrupt (abrupt.Break l)) = ended_after u.printed [] (last_ending name None) refl refl
     ended_course j side (completion.Abrupt (abrupt.Continue l)) = ended_after u.printed [] (last_ending name None) refl refl
 
+    -- what is told of the throw in which the source ended, in a state
+    abbrev pub thrown : Held → Option Text
+    thrown k = (let y = k.side in thrown_of y.realm k.answer)
+
+    abbrev thrown_by : Answer → Option Text
+    thrown_by a = (let y = h.side in thrown_of y.realm a)
+
     done_with : (tasks : Waiting) (a : Answer) → StandFor (read bound name text x) [] tasks → Ready (read bound name text x) a h.side tasks
-        → (j : ℕ) → script_run bound name text x j ≡ finish bound name text x j (Rest (read bound name text x) (tape bound name text x) (map worlds.Printed u.printed) (record h { answer = a }) tasks 0)
-        → RunsScript bound name text x (then_ending (last_ending name (thrown_of a)))
+        → (j : ℕ) → reading_run bound name text x j ≡ finish bound name text x j (Rest (read bound name text x) (tape bound name text x) (map worlds.Printed u.printed) (record h { answer = a }) tasks 0)
+        → RunsReading bound name text x (then_ending (last_ending name (thrown_by a)))
     done_with (t ∷ tasks) a stand ready j e = absurd stand
     done_with [] answer.Empty stand ready j e = absurd ready
     done_with [] (answer.Done o) stand ready j e = (j, ap (course_of bound) e ∙ ended_course j h.side o)
 
-    done_course : h.frames ≡ [] → RunsScript bound name text x (then_ending (last_ending name (thrown_of h.answer)))
+    done_course : h.frames ≡ [] → RunsReading bound name text x (then_ending (last_ending name (thrown h)))
     done_course none =
         let s = u.same 0 in
         let k = u.stack in
         done_with u.tasks h.answer (subst (λ (fs : List code.Frame). StandFor (read bound name text x) fs u.tasks) none k.stand) k.ready s.0 s.2
 
-    pub done : (r : Result Status WriteRefusal) (after e e' : Option (List ℕ)) (a : Answer) → h.frames ≡ [] → after ≡ now → a ≡ h.answer
-        → ComesTo (last_ending name (thrown_of a)) r (streams after e) (streams after e') → Reaches (RunsScript bound name text x) r (streams before e) (streams after e')
-    done r after e e' a none same is comes =
-        reached (then_ending (last_ending name (thrown_of h.answer))) (done_course none)
-        (comes_after (lines u.printed) (last_ending name (thrown_of h.answer)) r _ (streams after e) _ (rw same (lines_gained u.printed before now e u.gained))
-        (subst (λ (b : Answer). ComesTo (last_ending name (thrown_of b)) r (streams after e) (streams after e')) is comes))
+    pub done : (r : Result Status WriteRefusal) (after e e' : Option (List ℕ)) (k : Held) → h.frames ≡ [] → after ≡ now → k ≡ h
+        → ComesTo (last_ending name (thrown k)) r (streams after e) (streams after e') → Reaches (RunsReading bound name text x) r (streams before e) (streams after e')
+    done r after e e' k none same is comes =
+        reached (then_ending (last_ending name (thrown h))) (done_course none)
+        (comes_after (lines u.printed) (last_ending name (thrown h)) r _ (streams after e) _ (rw same (lines_gained u.printed before now e u.gained))
+        (subst (λ (k : Held). ComesTo (last_ending name (thrown k)) r (streams after e) (streams after e')) is comes))
 
     pub stopped_by : (r : Result Status WriteRefusal) (after e e' : Option (List ℕ)) (new : Held) (s : StopAt) → running.Stopped (read bound name text x) s h new → after ≡ now
-        → ComesTo (stop_ending bound s) r (streams after e) (streams after e') → Reaches (RunsScript bound name text x) r (streams before e) (streams after e')
+        → ComesTo (stop_ending bound s) r (streams after e) (streams after e') → Reaches (RunsReading bound name text x) r (streams before e) (streams after e')
     stopped_by r after e e' new s stops same comes =
         reached (then_ending (stop_ending bound s)) (stop_course new s stops)
         (comes_after (lines u.printed) (stop_ending bound s) r (streams before e) (streams after e) (streams after e') (rw same (lines_gained u.printed before now e u.gained)) comes)

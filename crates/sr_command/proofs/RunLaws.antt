@@ -1,10 +1,11 @@
 -- A run is determined by its words and the loader's answers.
-use Rattle.std.proofs.Common.{◌≡◌, ℕ, ◌+◌, List, [], ◌∷◌, None, Some, true, false, refl, sym, ap, subst, ◌∙◌, ◌⊎◌, inl, inr, arith}
+use Rattle.std.proofs.Common.{◌≡◌, ◌≤◌, ℕ, ◌+◌, List, [], ◌∷◌, length, None, Some, true, false, refl, sym, ap, subst, ◌∙◌, ◌⊎◌, inl, inr, arith}
 use Rattle.std.specs.Prelude.{codes, ◌++◌}
 use Rattle.std.specs.Fmt.{decimal}
+use Rattle.sr_text.specs.Utf8.{Decodes, IsTooLong}
 use Rattle.sr_text.proofs.Decoding.{decoded_once, no_fault_decoded, one_first_fault}
 use Rattle.sr_outside.specs.declared.loader.Loaded.{Loaded}
-use Rattle.sr_ast.specs.Script.{Script}
+use Rattle.sr_ast.specs.declared.reading.Reading.{Reading}
 use Rattle.sr_model.specs.Values.{Path}
 use Rattle.sr_model.specs.World.{World}
 use Rattle.sr_model.specs.Globals.{Holds}
@@ -16,9 +17,9 @@ use Rattle.sr_machine.specs.Language.{language}
 use Rattle.sr_command.specs.declared.status.Status.TheVariants.{NoText, WordsRefused}
 use Rattle.sr_command.specs.Courses.{Course, refused_with, course_of, over_course}
 use Rattle.sr_command.specs.Words.{Command, command, is_unbuilt_name}
-use Rattle.sr_command.specs.Runs.{not_built, file_of_text, script_run, Runs, RunsScript, RunsText, no_script, script, RunsFile, absent, failed, not_utf8, text, words_refused, name_not_built, file}
+use Rattle.sr_command.specs.Runs.{not_built, file_of_text, reading_run, Runs, RunsReading, RunsText, no_reading, read, RunsFile, absent, failed, not_utf8, longer, text, words_refused, name_not_built, file}
 use Rattle.sr_command.specs.Laws.{HasEnded, OneRun}
-use Rattle.sr_script.specs.Built.{OneScript}
+use Rattle.sr_script.specs.Built.{OneReading}
 
 -- a run that has ended lasts
 why_lasts : (bound : ℕ) (why : Why) (p : Path) (w : World Holds) (course : Course) (A : Type 0) → over_course bound why p w ≡ course → HasEnded course → Unless (is_short why) A → A
@@ -35,36 +36,49 @@ run_lasts bound j (Over w x) r' course e ended lasts =
     let same : r' ≡ Over w x = why_lasts bound x.why c.realm w course (r' ≡ Over w x) e ended lasts in
     ap (course_of bound) same ∙ e
 
-script_lasts : (bound : ℕ) (name units : List ℕ) (x : Script) (n j : ℕ) (course : Course) → course_of bound (script_run bound name units x n) ≡ course → HasEnded course
-    → course_of bound (script_run bound name units x (n + j)) ≡ course
-script_lasts bound name units x n j course e ended =
-    run_lasts bound j (script_run bound name units x n) (script_run bound name units x (n + j)) course e ended (run_larger (language (λ t. Some x)) bound j n (file_of_text name units ∷ []))
+reading_lasts : (bound : ℕ) (name units : List ℕ) (x : Reading) (n j : ℕ) (course : Course) → course_of bound (reading_run bound name units x n) ≡ course → HasEnded course
+    → course_of bound (reading_run bound name units x (n + j)) ≡ course
+reading_lasts bound name units x n j course e ended =
+    run_lasts bound j (reading_run bound name units x n) (reading_run bound name units x (n + j)) course e ended (run_larger (language (λ t. x)) bound j n (file_of_text name units ∷ []))
 
-one_script_run : (bound : ℕ) (name units : List ℕ) (x : Script) (course other : Course) → HasEnded course → HasEnded other → RunsScript bound name units x course → RunsScript bound name units x other → course ≡ other
-one_script_run bound name units x course other ended ended' run run' =
+one_reading_run : (bound : ℕ) (name units : List ℕ) (x : Reading) (course other : Course) → HasEnded course → HasEnded other → RunsReading bound name units x course → RunsReading bound name units x other → course ≡ other
+one_reading_run bound name units x course other ended ended' run run' =
     let n = run.0 in
     let n' = run'.0 in
     let swap : n + n' ≡ n' + n = omega arith in
-    sym (script_lasts bound name units x n n' course run.1 ended)
-    ∙ ap (λ m. course_of bound (script_run bound name units x m)) swap
-    ∙ script_lasts bound name units x n' n other run'.1 ended'
+    sym (reading_lasts bound name units x n n' course run.1 ended)
+    ∙ ap (λ m. course_of bound (reading_run bound name units x m)) swap
+    ∙ reading_lasts bound name units x n' n other run'.1 ended'
 
-one_text_run : OneScript → {bound : ℕ} {name units : List ℕ} {course other : Course} → HasEnded course → HasEnded other → RunsText bound name units course → RunsText bound name units other → course ≡ other
-one_text_run one h h' (no_script not) (no_script also) = refl
-one_text_run one h h' (no_script not) (script {x = x} is runs) = absurd (not x is)
-one_text_run one h h' (script {x = x} is runs) (no_script not) = absurd (not x is)
-one_text_run one {bound = bound} h h' (script {name = name} {text = units} {x = x} {course = course} is runs) (script {x = y} {course = other} also others) =
+one_text_run : OneReading → {bound : ℕ} {name units : List ℕ} {course other : Course} → HasEnded course → HasEnded other → RunsText bound name units course → RunsText bound name units other → course ≡ other
+one_text_run one h h' (no_reading not) (no_reading also) = refl
+one_text_run one h h' (no_reading not) (read {r = x} is runs) = absurd (not x is)
+one_text_run one h h' (read {r = x} is runs) (no_reading not) = absurd (not x is)
+one_text_run one {bound = bound} h h' (read {name = name} {text = units} {r = x} {course = course} is runs) (read {r = y} {course = other} also others) =
     let same : y ≡ x = one units y x also is in
-    one_script_run bound name units x course other h h' runs (subst (λ (z : Script). RunsScript bound name units z other) same others)
+    one_reading_run bound name units x course other h h' runs (subst (λ (z : Reading). RunsReading bound name units z other) same others)
 
-one_file_run : OneScript → {bound : ℕ} {name : List ℕ} {answer : Loaded} {course other : Course} → HasEnded course → HasEnded other → RunsFile bound name answer course → RunsFile bound name answer other → course ≡ other
+-- a text is not both too long for a string and no longer than one
+not_long_and_short : {bytes units : List ℕ} → IsTooLong bytes → Decodes bytes units → length units ≤ 16777216 → ⊥
+not_long_and_short long decodes short =
+    let same = decoded_once _ _ _ decodes long.1 in
+    let more = long.2 in
+    let less = rw same at short in
+    omega (arith, more, less)
+
+one_file_run : OneReading → {bound : ℕ} {name : List ℕ} {answer : Loaded} {course other : Course} → HasEnded course → HasEnded other → RunsFile bound name answer course → RunsFile bound name answer other → course ≡ other
 one_file_run one h h' absent absent = refl
 one_file_run one h h' failed failed = refl
 one_file_run one h h' (not_utf8 {name = name} fault) (not_utf8 also) =
     ap (λ (at : ℕ). refused_with NoText (codes "not UTF-8: " ++ name ++ codes " at " ++ decimal at)) (one_first_fault _ _ _ fault also)
-one_file_run one h h' (not_utf8 fault) (text decodes runs) = absurd (no_fault_decoded _ _ _ decodes fault)
-one_file_run one h h' (text decodes runs) (not_utf8 fault) = absurd (no_fault_decoded _ _ _ decodes fault)
-one_file_run one h h' (text decodes runs) (text also more) =
+one_file_run one h h' (not_utf8 fault) (text decodes short runs) = absurd (no_fault_decoded _ _ _ decodes fault)
+one_file_run one h h' (text decodes short runs) (not_utf8 fault) = absurd (no_fault_decoded _ _ _ decodes fault)
+one_file_run one h h' (not_utf8 fault) (longer long) = absurd (no_fault_decoded _ _ _ long.1 fault)
+one_file_run one h h' (longer long) (not_utf8 fault) = absurd (no_fault_decoded _ _ _ long.1 fault)
+one_file_run one h h' (longer long) (longer also) = refl
+one_file_run one h h' (longer long) (text decodes short runs) = absurd (not_long_and_short long decodes short)
+one_file_run one h h' (text decodes short runs) (longer long) = absurd (not_long_and_short long decodes short)
+one_file_run one h h' (text decodes short runs) (text also still more) =
     let same = decoded_once _ _ _ decodes also in
     one_text_run one h h' (rw same at runs) more
 
@@ -89,7 +103,7 @@ ways (words_refused none) = inl (none, refl)
 ways (name_not_built {c = c} asks unbuilt) = inr (inl (c, asks, unbuilt, refl))
 ways (file {c = c} {answer = answer} asks built runs) = inr (inr (c, answer, asks, built, refl, runs))
 
-module _ (one : OneScript) (words : List (List ℕ)) (answers : List (List ℕ × Loaded)) (course other : Course) (h : HasEnded course) (h' : HasEnded other) where
+module _ (one : OneReading) (words : List (List ℕ)) (answers : List (List ℕ × Loaded)) (course other : Course) (h : HasEnded course) (h' : HasEnded other) where
   same_unbuilt : IsUnbuilt words answers course → IsUnbuilt words answers other → course ≡ other
   same_unbuilt a b =
       let same : a.0 ≡ b.0 = let e = a.1 in let f = b.1 in cc in
@@ -118,5 +132,5 @@ module _ (one : OneScript) (words : List (List ℕ)) (answers : List (List ℕ �
   one_way (inr (inr a)) (inr (inl b)) = absurd (not_both' a b)
   one_way (inr (inr a)) (inr (inr b)) = same_file a b
 
-pub one_run : OneScript → OneRun
+pub one_run : OneReading → OneRun
 one_run one words answers course other h h' run run' = one_way one words answers course other h h' (ways run) (ways run')

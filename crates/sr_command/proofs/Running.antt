@@ -1,8 +1,8 @@
--- The loop over frames, against the run of the script.
+-- The loop over frames, against the run of the file.
 use Rattle.std.proofs.Common.{◌≡◌, ℕ, suc, ◌≤◌, ◌++◌, List, [], ◌∷◌, map, Option, Some, Result, Ok, Err, refl, sym, ap, subst, ◌∙◌, append_assoc, arith}
 use Rattle.std.proofs.lemmas.List.{map-append}
 use Rattle.std.specs.Io.KnownBytes.{Appends}
-use Rattle.sr_ast.specs.Script.{Script}
+use Rattle.sr_ast.specs.declared.reading.Reading.{Reading}
 use Rattle.sr_model.specs.Values.{Text}
 use Rattle.sr_model.specs.Events as events
 use Rattle.sr_model.specs.World as worlds
@@ -13,14 +13,15 @@ use Rattle.sr_outside.specs.declared.sink.WriteRefusal.TheVariants.{Failed, Memo
 use Rattle.sr_outside.proofs.Pieces.{appends_both}
 use Rattle.sr_state.specs.Held.{Held, first}
 use Rattle.sr_machine.proofs.Begins as machine
+use Rattle.sr_machine.specs.Language.{source_of}
 use Rattle.sr_machine.specs.Rest.{Waiting, Rest}
 use Rattle.sr_machine.specs.Going.{line_of, printed_bytes, IsStack, GoesOn, left_of}
-use Rattle.sr_machine.specs.Running.{script_frame, thrown_of, BreaksOff}
+use Rattle.sr_machine.specs.Running.{source_frame, thrown_of, BreaksOff}
 use Rattle.sr_machine.specs.Running as running
 use Rattle.sr_command.specs.declared.status.Status.{Status}
 use Rattle.sr_command.specs.Writes.{Write, out_bytes, err_bytes, Gains, IsCut, later, Streams, streams}
 use Rattle.sr_command.specs.Courses.{Course, write_of, status_of, is_uncaught}
-use Rattle.sr_command.specs.Runs.{script_run}
+use Rattle.sr_command.specs.Runs.{reading_run}
 use Rattle.sr_command.specs.Reaching.{ComesTo}
 use Rattle.sr_command.proofs.Gaining.{appends_nothing, gains_both}
 
@@ -69,9 +70,9 @@ ended_after texts more tail wrote how =
     let s : Some (status_of (is_uncaught (map worlds.Printed texts ++ more))) ≡ tail.status = ap (λ b. Some (status_of b)) (uncaught_after texts more) ∙ how in
     cc
 
-module _ (bound : ℕ) (name text : List ℕ) (x : Script) where
-  abbrev pub read : Text → Option Script
-  read t = Some x
+module _ (bound : ℕ) (name text : List ℕ) (x : Reading) where
+  abbrev pub read : Text → Reading
+  read t = x
 
   abbrev pub tape : List events.Event
   tape = events.Took (events.Source events.Script name text) ∷ []
@@ -81,7 +82,7 @@ module _ (bound : ℕ) (name text : List ℕ) (x : Script) where
   finish n r = machine.finish read bound name n r
 
   abbrev first_held : Held
-  first_held = (let h = first bound in record h { frames = script_frame x ∷ [] })
+  first_held = (let h = first bound in record h { frames = source_frame (source_of read text) ∷ [] })
 
   -- the loop so far: what it printed, and what the run still comes to
   pub record Under (h : Held) (before now : Option (List ℕ)) : Type 0 where
@@ -89,19 +90,19 @@ module _ (bound : ℕ) (name text : List ℕ) (x : Script) where
     pub stack : IsStack read h tasks
     pub printed : List Text
     pub gained : Appends before now (printed_bytes printed)
-    pub same : (m : ℕ) → (j : ℕ) × (m ≤ j) × (script_run bound name text x j ≡ finish j (Rest read tape (map worlds.Printed printed) h tasks m))
+    pub same : (m : ℕ) → (j : ℕ) × (m ≤ j) × (reading_run bound name text x j ≡ finish j (Rest read tape (map worlds.Printed printed) h tasks m))
 
   at_start : (before : Option (List ℕ)) → Under first_held before before
   at_start before = record {
-    tasks = machine.first_tasks read bound name text x refl;
-    stack = machine.first_stack read bound name text x refl;
+    tasks = machine.first_tasks read bound name text (source_of read text) refl;
+    stack = machine.first_stack read bound name text (source_of read text) refl;
     printed = [];
     gained = appends_nothing before before refl;
-    same = λ m. (suc m, omega arith, machine.begins read bound name text x refl m);
+    same = λ m. (suc m, omega arith, machine.begins read bound name text (source_of read text) refl m);
   }
 
   -- as the loop begins
-  pub start_under : (before : Option (List ℕ)) (run : running.Running) → run ≡ running.given bound x → Under run.held before before
+  pub start_under : (before : Option (List ℕ)) (run : running.Running) → run ≡ running.given bound (source_of read text) → Under run.held before before
   start_under before run is = subst (λ (r : running.Running). Under r.held before before) (sym is) (at_start before)
 
   module _ (h : Held) (before now : Option (List ℕ)) (u : Under h before now) where

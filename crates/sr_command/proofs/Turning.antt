@@ -1,6 +1,6 @@
 -- What is written before the turns stays written.
 use Rattle.std.proofs.Common.{◌≡◌, sym, ◌∙◌, ℕ, zero, suc, List, [], ◌∷◌, ◌++◌, append_assoc, append-nil, find, Option, None, Some}
-use Rattle.sr_ast.specs.Script.{Script}
+use Rattle.sr_ast.specs.declared.reading.Reading.{Reading}
 use Rattle.sr_model.specs.Values.{Text, Name, Path, root}
 use Rattle.sr_model.specs.Outcomes.{Completion, told_of}
 use Rattle.sr_model.specs.Events.{Message, Settle, Turn}
@@ -39,7 +39,7 @@ module _ {T R : Type 0} (l : Language T R) (bound d : ℕ) where
   turns_grow zero n w = nothing_more w.writes
   turns_grow (suc k) n w = next_grows (turns l (ev l (live l bound) d) k) (turns_grow k) n w w.told w.tickets
 
-module _ (read : Text → Option Script) (bound : ℕ) (name : Name) where
+module _ (read : Text → Reading) (bound : ℕ) (name : Name) where
   abbrev line_after : World Holds → Completion → List Write
   line_after w o = uncaught (language read) name o (w.slots root)
 

@@ -2,9 +2,11 @@
 use Rattle.std.specs.Prelude.{ℕ, Bool, true, false, List, [], ◌∷◌, ◌++◌, map, Option, None, Some, codes}
 use Rattle.std.specs.Fmt.{decimal}
 use Rattle.sr_text.specs.Encoding.{utf8_of}
+use Rattle.sr_text.specs.declared.marker.Marker.{Marker}
+use Rattle.sr_text.specs.declared.marker.Marker.TheVariants as marker
 use Rattle.sr_tag.specs.Path.{path_text}
 use Rattle.sr_model.specs.Values.{Path}
-use Rattle.sr_model.specs.Outcomes.{NumberStop, NegativeZero, Fraction, Infinite, Unsafe, Form, Stop, Number, Boxing, FunctionText, StringLength, CallDepth, SyntaxDepth, RealmPath}
+use Rattle.sr_model.specs.Outcomes.{NumberStop, NegativeZero, Fraction, Infinite, Unsafe, Form, Stop, Number, Boxing, FunctionText, StringLength, CallDepth, SyntaxDepth, Unsupported, RealmPath}
 use Rattle.sr_model.specs.World as worlds
 use Rattle.sr_model.specs.Globals.{Holds, Spot}
 use Rattle.sr_worlds.specs.Evaluation.{Done, Over}
@@ -35,6 +37,36 @@ number_stop_name Infinite = codes "infinite"
 number_stop_name Unsafe = codes "unsafe integer"
 number_stop_name Form = codes "number form"
 
+-- the names of what is left out of the language by name
+abbrev pub marker_name : Marker → List ℕ
+marker_name marker.NumberForm = codes "number form"
+marker_name marker.Bigint = codes "bigint"
+marker_name marker.UnsafeLiteral = codes "unsafe literal"
+marker_name marker.IdentifierEscape = codes "identifier escape"
+marker_name marker.NonAscii = codes "non-ASCII identifier"
+marker_name marker.Hash = codes "#"
+marker_name marker.At = codes "@"
+marker_name marker.Class = codes "class"
+marker_name marker.Async = codes "async"
+marker_name marker.Await = codes "await"
+marker_name marker.Yield = codes "yield"
+marker_name marker.Super = codes "super"
+marker_name marker.With = codes "with"
+marker_name marker.Arguments = codes "arguments"
+marker_name marker.Proto = codes "__proto__"
+marker_name marker.ImportCall = codes "import call"
+marker_name marker.NewTarget = codes "new.target"
+marker_name marker.Generator = codes "generator"
+marker_name marker.RegularExpression = codes "regular expression"
+marker_name marker.TaggedTemplate = codes "tagged template"
+marker_name marker.Pattern = codes "pattern"
+marker_name marker.DefaultParameter = codes "default parameter"
+marker_name marker.ComputedAccessor = codes "computed accessor"
+
+-- what is left out, and where it stands
+abbrev pub unsupported_name : Marker → ℕ → List ℕ
+unsupported_name m at = codes "unsupported " ++ marker_name m ++ codes " at " ++ decimal at
+
 abbrev pub stop_name : Stop → List ℕ
 stop_name (Number s) = number_stop_name s
 stop_name Boxing = codes "boxing"
@@ -42,6 +74,7 @@ stop_name FunctionText = codes "function text"
 stop_name StringLength = codes "string length"
 stop_name CallDepth = codes "call depth"
 stop_name SyntaxDepth = codes "syntax depth"
+stop_name (Unsupported m at) = unsupported_name m at
 stop_name RealmPath = codes "realm path"
 
 -- the steps used, the bound, and the charge for which it has no room

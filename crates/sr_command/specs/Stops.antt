@@ -10,7 +10,7 @@ use Rattle.sr_state.specs.declared.ends.StopName.TheVariants as stop
 use Rattle.sr_machine.specs.declared.live.StopAt.{StopAt}
 use Rattle.sr_command.specs.declared.status.Status.{Status}
 use Rattle.sr_command.specs.declared.status.Status.TheVariants as status
-use Rattle.sr_command.specs.Courses.{Course, line_ending, number_stop_name, steps_name}
+use Rattle.sr_command.specs.Courses.{Course, line_ending, number_stop_name, unsupported_name, steps_name}
 
 -- the name of a stop of arithmetic
 abbrev pub number_name : NumStop → List ℕ
@@ -21,12 +21,16 @@ abbrev pub name_in_line : ℕ → StopName → List ℕ
 name_in_line bound (stop.Number s) = number_name s
 name_in_line bound stop.StringLength = codes "string length"
 name_in_line bound stop.CallDepth = codes "call depth"
+name_in_line bound stop.SyntaxDepth = codes "syntax depth"
+name_in_line bound (stop.Unsupported m at) = unsupported_name m at
 name_in_line bound (stop.Steps used cost) = steps_name used bound cost
 
 abbrev pub stop_status : StopName → Status
 stop_status (stop.Number s) = status.Stopped
 stop_status stop.StringLength = status.Stopped
 stop_status stop.CallDepth = status.Stopped
+stop_status stop.SyntaxDepth = status.Stopped
+stop_status (stop.Unsupported m at) = status.Stopped
 stop_status (stop.Steps used cost) = status.OutOfSteps
 
 -- the line of a stop in the first realm

@@ -6,5 +6,5 @@ use sr_script::laws;
 pub fn one_run()
     ensures { OneRun }
 {
-    laws::one_script();
+    laws::one_reading();
 }

@@ -1,24 +1,26 @@
-ghost use Rattle.std.specs.Prelude.{◌≡◌, ◌≤◌, ◌⊎◌, List, ℕ, Option, Some, Ok, IfOk, IfSome, IsErrOf};
+ghost use Rattle.std.specs.Prelude.{◌≡◌, ◌≤◌, ◌⊎◌, List, ℕ, Option, Some, Ok, IfOk, IfSome, IsErrOf, length};
 ghost use Rattle.sr_outside.specs.Counts.{Rose, Raised};
 ghost use Rattle.sr_outside.specs.Loading.{IsHeld};
 ghost use Rattle.sr_outside.specs.declared.loader.Loaded.{Loaded};
 ghost use Rattle.sr_outside.specs.declared.loader.Loaded.TheVariants.{Text};
-ghost use Rattle.sr_ast.specs.Script.{Script};
+ghost use Rattle.sr_ast.specs.declared.reading.Reading.{Reading};
+ghost use Rattle.sr_machine.specs.Language.{source_of};
 ghost use Rattle.sr_machine.specs.Running.{given, thrown_of};
 ghost use Rattle.sr_command.specs.Writes.{streams};
+ghost use Rattle.sr_command.specs.Courses as courses;
 ghost use Rattle.sr_command.specs.Courses.{line_ending};
 ghost use Rattle.sr_command.specs.Stops.{number_name, stop_line, stop_ending, uncaught_line, last_ending};
-ghost use Rattle.sr_command.specs.Runs.{not_built, RunsScript, RunsText, RunsFile};
+ghost use Rattle.sr_command.specs.Runs.{not_built, too_long, RunsReading, RunsText, RunsFile};
 ghost use Rattle.sr_command.specs.Reaching.{ComesTo, RanOut, Reaches};
 
 use crate::Status;
-use sr_ast::ScriptCode;
+use sr_ast::SourceCode;
 use sr_machine::{Advance, Live, StopAt};
 use sr_num::NumStop;
 use sr_outside::{Loaded, Loader, Sink, WriteRefusal};
-use sr_script::read_script;
+use sr_script::read_source;
 use sr_state::StopName;
-use sr_text::{Str, TextRefusal};
+use sr_text::{Marker, Str, TextRefusal};
 use std::alloc::{AllocError, Global};
 
 /// Writes a line on the errors, as one write, and ends with this status.
@@ -64,6 +66,37 @@ fn number_name(stop: NumStop) -> &'static str
     }
 }
 
+/// The name of what is left out of the language by name.
+fn marker_name(marker: Marker) -> &'static str
+    ensures { result.now ≡ courses.marker_name marker }
+{
+    match marker {
+        Marker::NumberForm => "number form",
+        Marker::Bigint => "bigint",
+        Marker::UnsafeLiteral => "unsafe literal",
+        Marker::IdentifierEscape => "identifier escape",
+        Marker::NonAscii => "non-ASCII identifier",
+        Marker::Hash => "#",
+        Marker::At => "@",
+        Marker::Class => "class",
+        Marker::Async => "async",
+        Marker::Await => "await",
+        Marker::Yield => "yield",
+        Marker::Super => "super",
+        Marker::With => "with",
+        Marker::Arguments => "arguments",
+        Marker::Proto => "__proto__",
+        Marker::ImportCall => "import call",
+        Marker::NewTarget => "new.target",
+        Marker::Generator => "generator",
+        Marker::RegularExpression => "regular expression",
+        Marker::TaggedTemplate => "tagged template",
+        Marker::Pattern => "pattern",
+        Marker::DefaultParameter => "default parameter",
+        Marker::ComputedAccessor => "computed accessor",
+    }
+}
+
 /// Ends a run that stopped by a stop of this name, which is in the first realm.
 fn end_by_name<E: Sink>(
     alloc: Global,
@@ -80,6 +113,20 @@ fn end_by_name<E: Sink>(
     let at = stop.at;
     let line = format!(in alloc; "stop: {name}, realm 0, source {source}, at {at}\n")?;
     end_with(line.as_bytes(), status, err)
+}
+
+/// Ends the run of a text that is too long for a string.
+fn end_too_long<E: Sink>(alloc: Global, err: &mut E) -> Result<Status, WriteRefusal>
+    ensures comes { (out : Option (List ℕ)) → ComesTo too_long result (streams out (E.written err.old)) (streams out (E.written err.new)) }
+    ensures cause { IsErrOf result WriteRefusal.Failed → Rose (E.faults err.old) (E.faults err.new) }
+    ensures faults { E.faults err.old ≤ E.faults err.new }
+{
+    let stop = StopAt {
+        name: StopName::StringLength,
+        source: 0,
+        at: 0,
+    };
+    end_by_name(alloc, "string length", Status::Stopped, stop, err)
 }
 
 /// Ends a run that stopped, with this bound of steps.
@@ -101,6 +148,12 @@ fn end_by_stop<E: Sink>(
             end_by_name(alloc, "string length", Status::Stopped, stop, err)
         }
         StopName::CallDepth => end_by_name(alloc, "call depth", Status::Stopped, stop, err),
+        StopName::SyntaxDepth => end_by_name(alloc, "syntax depth", Status::Stopped, stop, err),
+        StopName::Unsupported(marker, at) => {
+            let marker = marker_name(marker);
+            let name = format!(in alloc; "unsupported {marker} at {at}")?;
+            end_by_name(alloc, name.as_str(), Status::Stopped, stop, err)
+        }
         StopName::Steps(used, cost) => {
             let name = format!(in alloc; "steps {used} of {bound}, charge {cost}")?;
             end_by_name(alloc, name.as_str(), Status::OutOfSteps, stop, err)
@@ -127,7 +180,7 @@ fn end_of_run<E: Sink>(
     live: &Live,
     err: &mut E,
 ) -> Result<Status, WriteRefusal>
-    ensures comes { (out : Option (List ℕ)) → let h = live.now.held in ComesTo (last_ending name.now (thrown_of h.answer)) result (streams out (E.written err.old)) (streams out (E.written err.new)) }
+    ensures comes { (out : Option (List ℕ)) → let h = live.now.held in let x = h.side in ComesTo (last_ending name.now (thrown_of x.realm h.answer)) result (streams out (E.written err.old)) (streams out (E.written err.new)) }
     ensures cause { IsErrOf result WriteRefusal.Failed → Rose (E.faults err.old) (E.faults err.new) }
     ensures faults { E.faults err.old ≤ E.faults err.new }
 {
@@ -140,7 +193,7 @@ fn end_of_run<E: Sink>(
     }
 }
 
-/// Runs a script that was given to a run with this bound of steps, in a file of this name.
+/// Runs the source of a text that was given to a run with this bound of steps, in a file of this name.
 fn run_to_end<O: Sink, E: Sink>(
     alloc: Global,
     bound: u64,
@@ -149,8 +202,8 @@ fn run_to_end<O: Sink, E: Sink>(
     out: &mut O,
     err: &mut E,
 ) -> Result<Status, WriteRefusal>
-    requires { (x : Script) × (live.old ≡ given bound x) }
-    ensures reaches { (text : List ℕ) (x : Script) → live.old ≡ given bound x → Reaches (RunsScript bound name.now text x) result (streams (O.written out.old) (E.written err.old)) (streams (O.written out.new) (E.written err.new)) }
+    requires { (text : List ℕ) × (r : Reading) × (live.old ≡ given bound (source_of (λ _. r) text)) }
+    ensures reaches { (text : List ℕ) (r : Reading) → live.old ≡ given bound (source_of (λ _. r) text) → Reaches (RunsReading bound name.now text r) result (streams (O.written out.old) (E.written err.old)) (streams (O.written out.new) (E.written err.new)) }
     ensures cause { IsErrOf result WriteRefusal.Failed → Rose (O.faults out.old) (O.faults out.new) ⊎ Rose (E.faults err.old) (E.faults err.new) }
     ensures out_faults { O.faults out.old ≤ O.faults out.new }
     ensures err_faults { E.faults err.old ≤ E.faults err.new }
@@ -166,22 +219,23 @@ fn run_to_end<O: Sink, E: Sink>(
     }
 }
 
-/// Runs a script of a file of this name, with this bound of steps.
-fn run_script<O: Sink, E: Sink>(
+/// Runs the source of a text that a file of this name has, with this bound of steps.
+fn run_source<O: Sink, E: Sink>(
     alloc: Global,
     bound: u64,
     name: &str,
-    script: ScriptCode,
+    source: SourceCode,
     out: &mut O,
     err: &mut E,
 ) -> Result<Status, WriteRefusal>
-    ensures reaches { (text : List ℕ) → Reaches (RunsScript bound name.now text script) result (streams (O.written out.old) (E.written err.old)) (streams (O.written out.new) (E.written err.new)) }
+    requires { (text : List ℕ) × (source.units ≡ length text) }
+    ensures reaches { (text : List ℕ) → source.units ≡ length text → Reaches (RunsReading bound name.now text source.reading) result (streams (O.written out.old) (E.written err.old)) (streams (O.written out.new) (E.written err.new)) }
     ensures cause { IsErrOf result WriteRefusal.Failed → Rose (O.faults out.old) (O.faults out.new) ⊎ Rose (E.faults err.old) (E.faults err.new) }
     ensures out_faults { O.faults out.old ≤ O.faults out.new }
     ensures err_faults { E.faults err.old ≤ E.faults err.new }
 {
     let mut live = Live::open(alloc, bound)?;
-    live.give_script(script)?;
+    live.give_source(source)?;
     run_to_end(alloc, bound, name, &mut live, out, err)
 }
 
@@ -199,8 +253,8 @@ fn run_text<O: Sink, E: Sink>(
     ensures out_faults { O.faults out.old ≤ O.faults out.new }
     ensures err_faults { E.faults err.old ≤ E.faults err.new }
 {
-    match read_script(alloc, text)? {
-        Some(script) => run_script(alloc, bound, name, script, out, err),
+    match read_source(alloc, text)? {
+        Some(source) => run_source(alloc, bound, name, source, out, err),
         None => end_not_built(alloc, name, err),
     }
 }
@@ -225,7 +279,7 @@ fn run_bytes<O: Sink, E: Sink>(
             let line = format!(in alloc; "not UTF-8: {name} at {at}\n")?;
             end_with(line.as_bytes(), Status::NoText, err)
         }
-        Err(TextRefusal::TooLong) => end_not_built(alloc, name, err),
+        Err(TextRefusal::TooLong) => end_too_long(alloc, err),
         Err(TextRefusal::Memory) => Err(WriteRefusal::Memory),
     }
 }

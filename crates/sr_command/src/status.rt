@@ -18,7 +18,7 @@ pub enum Status {
     NoText = 5,
     /// The file could not be read.
     ReadFailed = 6,
-    /// The file is of a form that is not built.
+    /// The file has a name, or holds a script, of a form that is not built.
     NotBuilt = 9,
 }
 

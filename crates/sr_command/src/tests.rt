@@ -35,8 +35,18 @@ const CASES: &[Case] = &[
         failing_out: &[],
         failing_err: &[],
         out: b"",
-        err: b"not built: a.js\n",
-        status: 9,
+        err: b"uncaught a.js: SyntaxError: syntax error at 10\n",
+        status: 1,
+    },
+    Case {
+        words: &["a.js"],
+        text: b"print(\"a\" \"b\");",
+        failing_loads: &[],
+        failing_out: &[],
+        failing_err: &[1],
+        out: b"",
+        err: b"write failed\n",
+        status: 7,
     },
     Case {
         words: &["a.js"],
@@ -180,6 +190,27 @@ struct Run {
 }
 
 const RUNS: &[Run] = &[
+    Run {
+        words: &["a.js"],
+        text: b"1+",
+        out: b"",
+        err: b"uncaught a.js: SyntaxError: syntax error at 2\n",
+        status: 1,
+    },
+    Run {
+        words: &["--steps", "1", "a.js"],
+        text: b"print(\"a",
+        out: b"",
+        err: b"uncaught a.js: SyntaxError: syntax error at 6\n",
+        status: 1,
+    },
+    Run {
+        words: &["a.js"],
+        text: b"print(1); let a;",
+        out: b"",
+        err: b"not built: a.js\n",
+        status: 9,
+    },
     Run {
         words: &["a.js"],
         text: b"print(1); print(0*-1)",

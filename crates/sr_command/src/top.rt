@@ -26,7 +26,7 @@ const OUT_OF_MEMORY: u8 = 8;
 /// | Status | Cause |
 /// |---|---|
 /// | 0 | the file ran to its end |
-/// | 1 | the file ended in a throw |
+/// | 1 | the file ended in a throw; a text that is no script throws a SyntaxError |
 /// | 2 | the words are not of the command |
 /// | 3 | the run stopped by a listed stop |
 /// | 4 | the next charge would pass the bound of steps |
@@ -34,7 +34,7 @@ const OUT_OF_MEMORY: u8 = 8;
 /// | 6 | the loader failed, and its count of faults rose in this call |
 /// | 7 | a sink failed, and its count of faults rose in this call |
 /// | 8 | want of memory |
-/// | 9 | the file is of a form that is not built |
+/// | 9 | the file has a name, or holds a script, of a form that is not built |
 pub fn shadow_run<L: Loader, O: Sink, E: Sink>(
     alloc: Global,
     words: &Vec<String>,

@@ -27,11 +27,11 @@ primitive_report (Num n) = number_text n
 primitive_report (Str text) = text
 primitive_report (Sym s) = codes "Symbol(" ++ description s ++ codes ")"
 
--- an object is told by its name and message; as long as objects have no properties there are none
-abbrev pub value_report : Value → Text
-value_report (Simple p) = primitive_report p
-value_report (Object n) = codes "object"
+-- object gives what is told of an object, by its number
+abbrev pub value_report : (ℕ → Text) → Value → Text
+value_report object (Simple p) = primitive_report p
+value_report object (Object n) = object n
 
 -- at most the first 16,777,216 code units are told
-unfoldable pub report : Value → Text
-report v = take 16777216 (value_report v)
+unfoldable pub report : (ℕ → Text) → Value → Text
+report object v = take 16777216 (value_report object v)

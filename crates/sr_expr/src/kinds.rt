@@ -23,7 +23,7 @@ pub fn step(alloc: Global, state: &mut State, frame: &mut Frame) -> Result<Next,
 {
     let shared = match &frame.activity {
         Activity::Tree(source, code) => Some((*source, code.share()?)),
-        Activity::Script(_, _) | Activity::BuiltIn(_) => None,
+        Activity::Source(_, _) | Activity::BuiltIn(_) => None,
     };
     match shared {
         Some((source, code)) => expression(alloc, state, frame, source, code.get()),

@@ -1,7 +1,7 @@
 -- What the loop does, as the code has it.
 use Rattle.std.proofs.Common.{◌≡◌, ℕ, List, Option, sym, ◌∙◌, subst}
 use Rattle.std.specs.Io.KnownBytes.{Appends}
-use Rattle.sr_ast.specs.Script.{Script}
+use Rattle.sr_ast.specs.declared.reading.Reading.{Reading}
 use Rattle.sr_outside.specs.Writing.{AppendsPart}
 use Rattle.sr_model.specs.Values.{Text}
 use Rattle.sr_state.specs.declared.frame.Frame.{Frame}
@@ -22,7 +22,7 @@ use Rattle.sr_machine.proofs.Goes.{topped, answered, StepClause, goes_pushed, go
 stop_same : (a b : StopAt) → advance.Stop a ≡ advance.Stop b → a ≡ b
 stop_same a b e = cc
 
-module _ (read : Text → Option Script) (old h new : Held) (f : Frame) (n : Next) (is : old ≡ topped f h) (steps : StepClause h f n new) where
+module _ (read : Text → Reading) (old h new : Held) (f : Frame) (n : Next) (is : old ≡ topped f h) (steps : StepClause h f n new) where
   steps_at : (n' : Next) → n ≡ n' → StepClause h f n' new
   steps_at n' e = subst (λ (x : Next). StepClause h f x new) e steps
 

@@ -1,6 +1,8 @@
--- The run of a script, from where the loop begins to where nothing is left to do.
+-- The run of a source, from where the loop begins to where nothing is left to do.
 use Rattle.std.proofs.Common.{◌≡◌, refl, sym, ap, subst, ℕ, suc, List, [], ◌∷◌, ◌++◌, Option, None, Some, arith}
-use Rattle.sr_ast.specs.Script.{Script}
+use Rattle.sr_ast.specs.declared.reading.Reading.{Reading}
+use Rattle.sr_ast.specs.declared.reading.SourceCode.{SourceCode}
+use Rattle.sr_stmt.specs.Rows.{source}
 use Rattle.sr_model.specs.Values.{Text, Name, root}
 use Rattle.sr_model.specs.Outcomes as model
 use Rattle.sr_model.specs.Events as events
@@ -18,12 +20,12 @@ use Rattle.sr_state.specs.declared.ends.Answer.TheVariants as answer
 use Rattle.sr_state.specs.declared.ends.Completion.{Completion}
 use Rattle.sr_state.specs.Ends.{completion_of}
 use Rattle.sr_state.specs.Held.{Held, Side}
-use Rattle.sr_machine.specs.Language.{script_row, language}
+use Rattle.sr_machine.specs.Language.{source_of, language}
 use Rattle.sr_machine.specs.Rest.{Waiting, place, world_of, StandFor, Rest, ended}
 use Rattle.sr_machine.specs.Going.{IsPayment, Ready, IsStack}
 use Rattle.sr_machine.specs.Running.{given}
 
-module _ (read : Text → Option Script) (bound : ℕ) (name : Name) where
+module _ (read : Text → Reading) (bound : ℕ) (name : Name) where
   -- what follows the evaluation of a file: the line of an uncaught throw, and the turns
   abbrev pub finish : ℕ → LiveRan Holds → LiveRan Holds
   finish n r =
@@ -38,34 +40,34 @@ module _ (read : Text → Option Script) (bound : ℕ) (name : Name) where
   pub finish_over : (n : ℕ) (why : Why) (c : Place) (w : World Holds) → finish n (over why c w) ≡ over why c w
   finish_over n why c w = refl
 
-  module _ (text : Text) (x : Script) (is : read text ≡ Some x) where
-    abbrev pub script_message : events.Message
-    script_message = events.Source events.Script name text
+  module _ (text : Text) (x : SourceCode) (is : source_of read text ≡ x) where
+    abbrev pub source_message : events.Message
+    source_message = events.Source events.Script name text
 
-    abbrev pub script_file : File
-    script_file = record { goal = events.Script; name = name; text = text; answers = [] }
+    abbrev pub source_file : File
+    source_file = record { goal = events.Script; name = name; text = text; answers = [] }
 
     abbrev pub first_tape : List events.Event
-    first_tape = events.Took script_message ∷ []
+    first_tape = events.Took source_message ∷ []
 
     abbrev pub first_tasks : Waiting
-    first_tasks = Waits (place 0) (tasks.Work script_message) [] ∷ []
+    first_tasks = Waits (place 0) (tasks.Work source_message) [] ∷ []
 
     abbrev pub first_held : Held
     first_held = (let r = given bound x in r.held)
 
     pub first_stack : IsStack read first_held first_tasks
     first_stack = record {
-      stand = (refl, (λ more r. ap (λ (s : Option Script). script_row s more r) is), tt);
-      ready = (let h = first_held in let y = h.side in subst (λ (s : Option Script). IsPayment (script_row s [] y.realm).next) (sym is) tt);
+      stand = (refl, (λ more r. ap (λ (s : SourceCode). source s more r) is), tt);
+      ready = tt;
       within = omega arith;
     }
 
     -- with one use of a row more, a run is what the loop begins with, and what follows that
-    pub begins : (n : ℕ) → run (language read) bound (suc n) (script_file ∷ []) ≡ finish (suc n) (Rest read first_tape [] first_held first_tasks n)
-    begins n = ap (finish (suc n)) (live_begins (language read) bound (suc n) (suc n) root script_message (let w = start (language read) in record w { answers = [] }) (omega arith) refl)
+    pub begins : (n : ℕ) → run (language read) bound (suc n) (source_file ∷ []) ≡ finish (suc n) (Rest read first_tape [] first_held first_tasks n)
+    begins n = ap (finish (suc n)) (live_begins (language read) bound (suc n) (suc n) root source_message (let w = start (language read) in record w { answers = [] }) (omega arith) refl)
 
-module _ (read : Text → Option Script) (tape : List events.Event) (v : List Write) where
+module _ (read : Text → Reading) (tape : List events.Event) (v : List Write) where
   abbrev pub EndsBy : Held → Waiting → ℕ → Answer → Type 0
   EndsBy h ts m a = (o : Completion) × (a ≡ answer.Done o) × (Rest read tape v h ts m ≡ Done (world_of tape v h.side) (completion_of o) (suc m))
 
@@ -78,7 +80,7 @@ module _ (read : Text → Option Script) (tape : List events.Event) (v : List Wr
   no_frames [] (t ∷ ts) e st = absurd st
   no_frames (f ∷ fs) ts e st = cc
 
-  -- where no frame is left, the script has ended
+  -- where no frame is left, the source has ended
   pub ends : (h : Held) (ts : Waiting) (m : ℕ) → IsStack read h ts → h.frames ≡ [] → EndsBy h ts m h.answer
   ends h ts m stack e =
       (let none : ts ≡ [] = no_frames h.frames ts e stack.stand in

@@ -2,7 +2,7 @@
 use Rattle.std.proofs.Common.{◌≡◌, ℕ, suc, ◌+◌, ◌-◌, ◌*◌, ◌<◌, ◌≤◌, List, [], ◌∷◌, ◌++◌, length, Option, None, Some, refl, sym, ap, ◌∙◌, subst, arith, inl, inr}
 use Rattle.std.proofs.lemmas.List.{append-nil}
 use Rattle.std.specs.Io.KnownBytes.{Appends}
-use Rattle.sr_ast.specs.Script.{Script}
+use Rattle.sr_ast.specs.declared.reading.Reading.{Reading}
 use Rattle.sr_model.specs.Values.{Text}
 use Rattle.sr_model.specs.Events.{Event}
 use Rattle.sr_model.specs.Tasks.{Item}
@@ -93,7 +93,7 @@ fall_printed f h new text o (inl c) l = (let p : Held = printed text new in fall
 fall_printed f h new text o (inr (inl c)) l = absurd c.quiet
 fall_printed f h new text o (inr (inr c)) l = absurd c
 
-module _ (read : Text → Option Script) (good : AllGood read) (begin : AllBegin read) (quiet : AllQuiet read) where
+module _ (read : Text → Reading) (good : AllGood read) (begin : AllBegin read) (quiet : AllQuiet read) where
   -- nothing more was written
   leads_none : (tape : List Event) (w : List Write) (from : ℕ → LiveRan Holds) (new : Held) (ts : Waiting) → Leads from (Rest read tape w new ts) → Leads from (Rest read tape (w ++ []) new ts)
   leads_none tape w from new ts l = subst (λ v. Leads from (Rest read tape v new ts)) (sym (append-nil w)) l

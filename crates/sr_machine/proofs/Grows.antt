@@ -1,7 +1,7 @@
 -- What was written stays written.
 use Rattle.std.proofs.Common.{◌≡◌, sym, ap, ◌∙◌, ℕ, zero, suc, Bool, true, false, List, [], ◌∷◌, ◌++◌, append_assoc, Option, None}
 use Rattle.std.proofs.lemmas.List.{append-nil}
-use Rattle.sr_ast.specs.Script.{Script}
+use Rattle.sr_ast.specs.declared.reading.Reading.{Reading}
 use Rattle.sr_model.specs.Values.{Text, Name, Path, member, same}
 use Rattle.sr_model.specs.Outcomes.{Completion, Normal, nothing}
 use Rattle.sr_model.specs.Events.{Answer, Event, Message, Took, Loaded}
@@ -106,7 +106,7 @@ module _ {T R : Type 0} (l : Language T R) (bound : ℕ) where
   pub means_grows : (m : ℕ) (t : LiveTop T R) → (let w = t.state in Starts w.writes (live_means l bound m t))
   means_grows m t = (let w = t.state in starts_then w.writes (ev l (live l bound) m m t.context w t.task t.got) _ (ev_grows m m t.context w t.task t.got) (λ w' o k. after_grows t.below w' o k))
 
-module _ (read : Text → Option Script) (tape : List Event) (v : List Write) where
+module _ (read : Text → Reading) (tape : List Event) (v : List Write) where
   ended_grows : (h : Held) (a : state.Answer) (m : ℕ) → Starts v (ended read (world_of tape v h.side) a m)
   ended_grows h answer.Empty m = none v
   ended_grows h (answer.Done o) m = none v

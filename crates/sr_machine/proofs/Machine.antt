@@ -1,7 +1,7 @@
 -- A step goes on with the one recursion, in a run with one realm.
 use Rattle.std.proofs.Common.{◌≡◌, ℕ, zero, suc, Bool, true, false, List, [], ◌∷◌, ◌++◌, Option, None, refl, sym, ap, ◌∙◌, subst, append_assoc, arith}
 use Rattle.std.proofs.lemmas.List.{append-nil}
-use Rattle.sr_ast.specs.Script.{Script}
+use Rattle.sr_ast.specs.declared.reading.Reading.{Reading}
 use Rattle.sr_model.specs.Values.{Text}
 use Rattle.sr_model.specs.Outcomes.{Normal, Stop, CallDepth}
 use Rattle.sr_model.specs.Events.{Event}
@@ -58,7 +58,7 @@ Turns f g = (tape : List Event) (v : List Write) → Leads (f tape v) (g tape v)
 turns_on : (f g h : Course) → ((tape : List Event) (v : List Write) (m : ℕ) → f tape v (suc m) ≡ g tape v m) → Turns g h → Turns f h
 turns_on f g h e l tape v m = let a = l tape v m in (suc a.0, omega (arith, a.1), e tape v a.0 ∙ a.2)
 
-module _ (read : Text → Option Script) where
+module _ (read : Text → Reading) where
   -- what the laws of rows give
   abbrev pub AllGood : Type 0
   AllGood = (task : Work) (got : List Item) (r : Realm Holds) → Good (row read task got r).next
@@ -94,6 +94,8 @@ module _ (read : Text → Option Script) where
   why_stopped (stop.Number s) y x h = (y, refl, h)
   why_stopped stop.StringLength y x h = (y, refl, h)
   why_stopped stop.CallDepth y x h = (y, refl, h)
+  why_stopped stop.SyntaxDepth y x h = (y, refl, h)
+  why_stopped (stop.Unsupported marker at) y x h = (y, refl, h)
 
   -- what a step comes to, against what the state before it still came to
   module _ (o : Outer) (under : List Frame) (ts : Waiting) where

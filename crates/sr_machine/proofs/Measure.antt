@@ -2,7 +2,7 @@
 use Rattle.std.proofs.Common.{◌≡◌, ℕ, zero, suc, ◌+◌, ◌<◌, ◌≤◌, Bool, true, false, List, [], ◌∷◌, ◌++◌, length, Option, refl, sym, ap, ◌∙◌, subst, arith, ◌⊎◌, inl, inr}
 use Rattle.std.proofs.lemmas.List.{append-nil}
 use Rattle.std.proofs.lemmas.Bool.{leb-true}
-use Rattle.sr_ast.specs.Script.{Script}
+use Rattle.sr_ast.specs.declared.reading.Reading.{Reading}
 use Rattle.sr_model.specs.Values.{Text}
 use Rattle.sr_model.specs.Outcomes.{Completion}
 use Rattle.sr_model.specs.Ports.{Charge, Enter, Line, Ticket, NewRealm, Load, Tell, Ask}
@@ -203,7 +203,7 @@ module _ (stays : ℕ → Frame → Steps → Type 0) (under : List Frame) (o : 
   opens_spent x a i k s (Use (Tell j y)) n new may good h = absurd h
   opens_spent x a i k s (Use (Ask y)) n new may good h = absurd h
 
-module _ (read : Text → Option Script) where
+module _ (read : Text → Reading) where
   abbrev pub AllQuiet : Type 0
   AllQuiet = (task : Work) (got : List Item) (o : Completion) (r : Realm Holds) → NotLine (row read task (got ++ Gave o ∷ []) r).next
 

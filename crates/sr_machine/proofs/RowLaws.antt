@@ -13,13 +13,18 @@ use Rattle.sr_ast.specs.declared.operators.UnaryOp.{UnaryOp}
 use Rattle.sr_ast.specs.declared.operators.UpdateOp.{UpdateOp}
 use Rattle.sr_ast.specs.Layer.{Layer, layer_of}
 use Rattle.sr_ast.specs.Script.{Script}
+use Rattle.sr_ast.specs.declared.reading.Reading.{Reading}
+use Rattle.sr_ast.specs.declared.reading.Reading.TheVariants as reading
+use Rattle.sr_ast.specs.declared.reading.SourceCode.{SourceCode}
+use Rattle.sr_ast.specs.declared.refused.Refused.TheVariants as refused
+use Rattle.sr_state.specs.Errors.{throw_new, syntax_error}
 use Rattle.sr_model.specs.Values.{Text, Value, Simple, Undefined, Null, Truth, Num, Str}
-use Rattle.sr_model.specs.Outcomes.{Completion, Normal, Abrupt, Leave}
+use Rattle.sr_model.specs.Outcomes.{Completion, Normal, Abrupt, Leave, Unsupported, SyntaxDepth}
 use Rattle.sr_model.specs.Events.{Message, Source, Evaluate, Import, Call, Settle, Turn}
 use Rattle.sr_model.specs.Realm.{Realm}
 use Rattle.sr_model.specs.Tasks.{Item, Gave, Paid, Queued, Brought, Replied, Kept, Run, Apply, Construct, BuiltIn, Convert, Operate, Read, Turned}
 use Rattle.sr_model.specs.Tasks as tasks
-use Rattle.sr_model.specs.Globals.{Holds, assigned, accepted, global_value, either}
+use Rattle.sr_model.specs.Globals.{Error, Holds, assigned, accepted, global_value, either}
 use Rattle.sr_conv.specs.Conversions.{to_boolean, to_text}
 use Rattle.sr_conv.specs.Operators.{operate, operate_one, step_number}
 use Rattle.sr_state.specs.Work.{Work, Steps}
@@ -27,14 +32,14 @@ use Rattle.sr_state.specs.Step.{print_number}
 use Rattle.sr_state.specs.Trees.{value_in, give_value}
 use Rattle.sr_expr.specs.Rows.{expression_of, give_found, give_name, put_and_give, name_in, in_order, chosen, condition, logical_left, binary_right, binary_left, unary_operand, update_target, assign_value, compound_right, assignment, called, arguments}
 use Rattle.sr_expr.specs.At.{is_built, is_prefix_built, binary_at, unary_at, not_built_at, operator_at, prefix_at, linked_at, expression_at}
-use Rattle.sr_stmt.specs.Rows.{Place, Test, Body, Update, Loop, update_empty, at_test, after_body, declare_one, declare, statements, branch, choice, loop, for_first, accept, source}
+use Rattle.sr_stmt.specs.Rows.{Place, Test, Body, Update, Loop, update_empty, at_test, after_body, declare_one, declare, statements, branch, choice, loop, for_first, accept, read_text, source}
 use Rattle.sr_stmt.specs.At.{statement_at}
 use Rattle.sr_call.specs.Rows.{joined, print_line, print_rest}
-use Rattle.sr_machine.specs.Language.{is_statement, script_row, work_row, row}
+use Rattle.sr_machine.specs.Language.{is_statement, source_of, work_row, row}
 use Rattle.sr_machine.specs.Going.{IsPayment}
 use Rattle.sr_machine.proofs.Machine.{Good, AllGood, AllBegin}
 use Rattle.sr_machine.proofs.Measure.{NotLine, AllQuiet}
-use Rattle.sr_machine.proofs.Fair.{Fair, Calm, fair, calm_give, calm_either, calm_charge, calm_enter, calm_part, fair_line, calm_changed, calm_pay, fair_made, fair_computed, calm_throw, calm_computed, calm_operated, calm_begin}
+use Rattle.sr_machine.proofs.Fair.{Fair, Calm, fair, calm_give, calm_halt, calm_either, calm_charge, calm_enter, calm_part, fair_line, calm_changed, calm_pay, fair_made, fair_computed, calm_throw, calm_computed, calm_operated, calm_begin}
 
 -- expressions
 calm_found : (o : Option Value) → Calm (give_found o)
@@ -243,8 +248,18 @@ module _ (x : Script) where
       good_first : (r : Realm Holds) → NotLine (accept x [] r).next
       good_first r = (let i = accepted x.names r.inner in (calm_statements _ 0 x.body None).first (record r { inner = i }))
 
-  calm_source : Calm (source x)
-  calm_source = calm_charge 0 _ (fair _ (calm_pay (x.units / 256) _ calm_accept))
+-- what is no script
+calm_new : (e : Error) → Calm (throw_new e)
+calm_new e = record { good = λ got r. tt; quiet = λ got o r. tt; first = λ r. tt }
+
+calm_read : (e : Reading) → Calm (read_text e)
+calm_read (reading.Script x) = calm_accept x
+calm_read (reading.Refused (refused.Syntax at)) = calm_new (syntax_error at)
+calm_read (reading.Refused (refused.Unsupported marker at)) = calm_halt (Unsupported marker at)
+calm_read (reading.Refused refused.TooDeep) = calm_halt SyntaxDepth
+
+calm_source : (x : SourceCode) → Calm (source x)
+calm_source x = calm_charge 0 _ (fair _ (calm_pay (x.units / 256) _ (calm_read x.reading)))
 
 -- `print`
 fair_print_line : (text : Text) → Fair (print_line text)
@@ -255,13 +270,9 @@ fair_rest [] texts = fair_made (joined texts) _ (fair_print_line (joined texts))
 fair_rest (v ∷ vs) texts = fair _ (calm_charge 0 _ (fair_computed (to_text v) _ (λ s. fair_rest vs (texts ++ s ∷ []))))
 
 -- all rows
-module _ (read : Text → Option Script) where
-  calm_script : (x : Option Script) → Calm (script_row x)
-  calm_script None = calm_give (Normal None)
-  calm_script (Some x) = calm_source x
-
+module _ (read : Text → Reading) where
   calm_work : (m : Message) → Calm (work_row read m)
-  calm_work (Source goal name text) = calm_script (read text)
+  calm_work (Source goal name text) = calm_source (source_of read text)
   calm_work (Evaluate text) = calm_give (Normal None)
   calm_work (Import specifier name) = calm_give (Normal None)
   calm_work (Call export args this) = calm_give (Normal None)

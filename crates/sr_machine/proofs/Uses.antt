@@ -1,7 +1,7 @@
 -- One use of a row, whose turn is known.
 use Rattle.std.proofs.Common.{◌≡◌, ℕ, suc, true, false, List, [], ◌∷◌, ◌++◌, Option, None, refl, sym, ap, ◌∙◌, subst}
 use Rattle.std.proofs.lemmas.List.{append-nil}
-use Rattle.sr_ast.specs.Script.{Script}
+use Rattle.sr_ast.specs.declared.reading.Reading.{Reading}
 use Rattle.sr_model.specs.Values.{Text, root}
 use Rattle.sr_model.specs.Outcomes.{Completion, Normal, Stop, CallDepth}
 use Rattle.sr_model.specs.Events.{Event}
@@ -28,7 +28,7 @@ use Rattle.sr_machine.proofs.Worlds.{put_is, pay_is, print_is}
 abbrev pub top : List Event → List Write → Waiting → Work → ℕ → Side → List Item → LiveTop Work Holds
 top tape v ts task k x got = record { context = place k; state = world_of tape v x; task = task; got = got; below = ts }
 
-module _ (read : Text → Option Script) (bound : ℕ) where
+module _ (read : Text → Reading) (bound : ℕ) where
   abbrev pub means_top : ℕ → LiveTop Work Holds → LiveRan Holds
   means_top = live_means (language read) bound
 

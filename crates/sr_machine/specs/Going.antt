@@ -2,7 +2,7 @@
 use Rattle.std.specs.Prelude.{◌≡◌, ℕ, ◌≤◌, ◌<◌, ◌+◌, ◌-◌, ◌*◌, suc, List, [], ◌∷◌, ◌++◌, Option, length, map}
 use Rattle.std.specs.Io.KnownBytes.{Appends}
 use Rattle.sr_text.specs.Encoding.{utf8_of}
-use Rattle.sr_ast.specs.Script.{Script}
+use Rattle.sr_ast.specs.declared.reading.Reading.{Reading}
 use Rattle.sr_model.specs.Values.{Text}
 use Rattle.sr_model.specs.Outcomes.{Stop}
 use Rattle.sr_model.specs.Ports.{Charge, Enter}
@@ -46,7 +46,7 @@ answer_weight (answer.Done o) = 3
 abbrev pub left_of : Held → ℕ
 left_of h = (let o = h.outer in let x = h.side in 6 * (o.bound - x.used) + 2 * length h.frames + answer_weight h.answer)
 
-module _ (read : Text → Option Script) where
+module _ (read : Text → Reading) where
   -- where no answer waits, the task on top pays next
   abbrev pub Ready : Answer → Side → Waiting → Type 0
   Ready (answer.Done o) x ts = Unit {0}
@@ -78,6 +78,8 @@ module _ (read : Text → Option Script) where
   IsWhy (stop.Number s) why x = (y : Stop) × (why ≡ Stopped y) × IsStop (stop.Number s) y
   IsWhy stop.StringLength why x = (y : Stop) × (why ≡ Stopped y) × IsStop stop.StringLength y
   IsWhy stop.CallDepth why x = (y : Stop) × (why ≡ Stopped y) × IsStop stop.CallDepth y
+  IsWhy stop.SyntaxDepth why x = (y : Stop) × (why ≡ Stopped y) × IsStop stop.SyntaxDepth y
+  IsWhy (stop.Unsupported marker at) why x = (y : Stop) × (why ≡ Stopped y) × IsStop (stop.Unsupported marker at) y
 
   -- the run is over by this stop, in the world of the new state
   abbrev pub StopsBy : StopName → Held → Held → Type 0

@@ -1,21 +1,23 @@
 -- The language that is built: its rows, put together from those of the expressions, the statements and the built-in functions.
-use Rattle.std.specs.Prelude.{ℕ, Bool, true, false, List, [], Option, None, Some}
+use Rattle.std.specs.Prelude.{ℕ, Bool, true, false, List, [], ◌++◌, Option, None, Some, length, codes}
 use Rattle.sr_ast.specs.declared.tree.Tree.{Tree}
 use Rattle.sr_ast.specs.declared.tree.Element.TheOpen as layer
 use Rattle.sr_ast.specs.Layer.{Layer, layer_of}
-use Rattle.sr_ast.specs.Script.{Script}
+use Rattle.sr_ast.specs.declared.reading.Reading.{Reading}
+use Rattle.sr_ast.specs.declared.reading.SourceCode.{SourceCode}
 use Rattle.sr_model.specs.Values.{Text, Value}
 use Rattle.sr_model.specs.Outcomes.{Normal}
 use Rattle.sr_model.specs.Events.{Message, Source, Evaluate, Import, Call, Settle, Turn}
 use Rattle.sr_model.specs.Tasks.{Run, Apply, Construct, BuiltIn, Convert, Operate, Read, Language}
 use Rattle.sr_model.specs.Tasks as tasks
 use Rattle.sr_model.specs.Scripts.{give}
-use Rattle.sr_model.specs.Globals.{Holds, born, either}
+use Rattle.sr_model.specs.Realm.{Realm}
+use Rattle.sr_model.specs.Globals.{Error, Holds, born, either, error_in}
 use Rattle.sr_state.specs.declared.frame.Activity.{Activity}
 use Rattle.sr_state.specs.declared.frame.Activity.TheVariants as activity
 use Rattle.sr_state.specs.Work.{Work, Steps}
 use Rattle.sr_expr.specs.At.{expression_at}
-use Rattle.sr_stmt.specs.At.{statement_at, script_at}
+use Rattle.sr_stmt.specs.At.{statement_at, source_at}
 use Rattle.sr_stmt.specs.Rows as statements
 use Rattle.sr_call.specs.Rows.{print}
 use Rattle.sr_call.specs.At.{print_at}
@@ -41,23 +43,30 @@ tree_at s e t = either (is_statement (layer_of t)) (statement_at s e t.from (lay
 -- what a frame goes on with
 abbrev pub at_of : Activity → ℕ → List Value → Steps
 at_of (activity.Tree s t) = tree_at s 0 t
-at_of (activity.Script s x) = script_at s x
+at_of (activity.Source s x) = source_at s x
 at_of (activity.BuiltIn b) = print_at
 
 -- what is not built ends at once
 abbrev pub nothing : Steps
 nothing = give (Normal None)
 
--- a text that has a script is run
-abbrev pub script_row : Option Script → Steps
-script_row None = nothing
-script_row (Some x) = statements.source x
+-- an object is told by its name and message (ECMA-262 20.5.3.4, where the name is not empty). As yet all objects are errors
+abbrev pub error_report : Option Error → Text
+error_report None = codes "object"
+error_report (Some e) = e.name ++ codes ": " ++ e.message
 
--- read gives the script of a text
-module _ (read : Text → Option Script) where
+-- what is told of a value that a realm throws
+abbrev pub throw_report : Realm Holds → Value → Text
+throw_report r v = report (λ n. error_report (error_in r n)) v
+
+-- read gives what a text is as it is read
+abbrev pub source_of : (Text → Reading) → Text → SourceCode
+source_of read text = record { reading = read text; units = length text }
+
+module _ (read : Text → Reading) where
   -- the work of a message
   abbrev pub work_row : Message → Steps
-  work_row (Source goal name text) = script_row (read text)
+  work_row (Source goal name text) = statements.source (source_of read text)
   work_row (Evaluate text) = nothing
   work_row (Import specifier name) = nothing
   work_row (Call export args this) = nothing
@@ -75,6 +84,6 @@ module _ (read : Text → Option Script) where
   row (Operate o vs) = nothing
   row (Read goal text) = nothing
 
-  -- the language. Nothing is thrown yet, so nothing is told of a throw
+  -- the language
   abbrev pub language : Language Work Holds
-  language = record { row = row; work = tasks.Work; born = born; readable = λ text. false; report = λ r v. report v }
+  language = record { row = row; work = tasks.Work; born = born; readable = λ text. false; report = throw_report }

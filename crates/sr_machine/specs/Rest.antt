@@ -1,6 +1,6 @@
 -- What a stack of frames stands for.
 use Rattle.std.specs.Prelude.{◌≡◌, ℕ, suc, ◌≤◌, List, [], ◌∷◌, ◌++◌, Option}
-use Rattle.sr_ast.specs.Script.{Script}
+use Rattle.sr_ast.specs.declared.reading.Reading.{Reading}
 use Rattle.sr_model.specs.Values.{Text, root, same}
 use Rattle.sr_model.specs.Events.{Event}
 use Rattle.sr_model.specs.Realm.{Realm}
@@ -46,7 +46,7 @@ Waiting = List (Frame Work Place (Asking Work))
 abbrev pub Leads : (ℕ → LiveRan Holds) → (ℕ → LiveRan Holds) → Type 0
 Leads from to = (m : ℕ) → (j : ℕ) × (m ≤ j) × (from j ≡ to m)
 
-module _ (read : Text → Option Script) where
+module _ (read : Text → Reading) where
   -- a frame stands for a task and what that was given: what the row does after that is what the frame goes on with
   abbrev pub Stands : code.Frame → Work → List Item → Type 0
   Stands f task got = (more : List Item) (r : Realm Holds) → row read task (got ++ more) r ≡ at_of f.activity f.stage (plain f.kept) more r

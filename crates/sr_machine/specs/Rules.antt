@@ -19,7 +19,7 @@ use Rattle.sr_machine.specs.Language.{is_statement, at_of}
 -- the rules of an activity
 abbrev pub rules_of : Activity → Rules
 rules_of (activity.Tree s t) = either (is_statement (layer_of t)) rules.Statements rules.Expressions
-rules_of (activity.Script s x) = rules.Statements
+rules_of (activity.Source s x) = rules.Statements
 rules_of (activity.BuiltIn b) = rules.BuiltIns
 
 -- a frame goes on by what is said of its activity, its stage and the values that it keeps

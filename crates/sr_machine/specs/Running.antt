@@ -1,13 +1,13 @@
 -- A run as contracts see it, and its steps.
 use Rattle.std.specs.Prelude.{◌≡◌, ℕ, List, [], ◌∷◌, Option, None, Some}
 use Rattle.sr_outside.specs.Writing.{AppendsPart}
-use Rattle.sr_ast.specs.Script.{Script}
+use Rattle.sr_ast.specs.declared.reading.Reading.{Reading}
+use Rattle.sr_ast.specs.declared.reading.SourceCode.{SourceCode}
 use Rattle.sr_model.specs.Values.{Text}
 use Rattle.sr_model.specs.World.{Printed}
 use Rattle.sr_state.specs.declared.frame.Frame.{Frame}
 use Rattle.sr_state.specs.declared.frame.Activity.TheVariants as activity
 use Rattle.sr_conv.specs.Plain.{value_of}
-use Rattle.sr_conv.specs.Reports.{report}
 use Rattle.sr_state.specs.declared.ends.Answer.{Answer}
 use Rattle.sr_state.specs.declared.ends.Answer.TheVariants as answer
 use Rattle.sr_state.specs.declared.ends.Completion.TheVariants as completion
@@ -18,6 +18,9 @@ use Rattle.sr_machine.specs.declared.live.Ended.TheVariants as ended
 use Rattle.sr_machine.specs.declared.live.Advance.{Advance}
 use Rattle.sr_machine.specs.declared.live.Advance.TheVariants as advance
 use Rattle.sr_machine.specs.declared.live.StopAt.{StopAt}
+use Rattle.sr_model.specs.Realm.{Realm}
+use Rattle.sr_model.specs.Globals.{Holds}
+use Rattle.sr_machine.specs.Language.{throw_report}
 use Rattle.sr_machine.specs.Rest.{Waiting}
 use Rattle.sr_machine.specs.Going.{line_of, IsStack, Goes, StopsBy}
 
@@ -30,13 +33,13 @@ pub record Running : Type 0 where
 abbrev pub opened : ℕ → Running
 opened bound = record { held = first bound; over = None }
 
--- a frame that begins a script
-abbrev pub script_frame : Script → Frame
-script_frame x = record { activity = activity.Script 0 x; stage = 0; kept = []; calls = 0 }
+-- a frame that begins a source
+abbrev pub source_frame : SourceCode → Frame
+source_frame x = record { activity = activity.Source 0 x; stage = 0; kept = []; calls = 0 }
 
--- a run to which a script was given
-abbrev pub given : ℕ → Script → Running
-given bound x = (let h = first bound in record { held = record h { frames = script_frame x ∷ [] }; over = None })
+-- a run to which a source was given
+abbrev pub given : ℕ → SourceCode → Running
+given bound x = (let h = first bound in record { held = record h { frames = source_frame x ∷ [] }; over = None })
 
 -- the answer after the end
 abbrev pub answer_of : Ended → Advance
@@ -56,7 +59,7 @@ Remembers advance.Memory over = over ≡ Some ended.Memory
 abbrev pub IsLastPlace : StopAt → Side → Type 0
 IsLastPlace s x = (let r = x.realm in let i = r.inner in let h = i.rest in let l = h.last in (s.source ≡ l.source) × (s.at ≡ l.at))
 
-module _ (read : Text → Option Script) where
+module _ (read : Text → Reading) where
   -- the run stopped
   abbrev pub Stopped : StopAt → Held → Held → Type 0
   Stopped s old new = StopsBy read s.name old new × IsLastPlace s new.side
@@ -67,11 +70,11 @@ module _ (read : Text → Option Script) where
       (tasks : Waiting) → IsStack read old tasks →
       (text : Text) × (next : Held) × AppendsPart before after (line_of text) × Goes read old next (Printed text ∷ []) tasks
 
--- the report of the throw in which the script ended
-abbrev pub thrown_of : Answer → Option Text
-thrown_of answer.Empty = None
-thrown_of (answer.Done (completion.Normal v)) = None
-thrown_of (answer.Done (completion.Abrupt (abrupt.Throw v))) = Some (report (value_of v))
-thrown_of (answer.Done (completion.Abrupt (abrupt.Return v))) = None
-thrown_of (answer.Done (completion.Abrupt (abrupt.Break l))) = None
-thrown_of (answer.Done (completion.Abrupt (abrupt.Continue l))) = None
+-- the report of the throw in which the source ended, in the realm as it is then
+abbrev pub thrown_of : Realm Holds → Answer → Option Text
+thrown_of r answer.Empty = None
+thrown_of r (answer.Done (completion.Normal v)) = None
+thrown_of r (answer.Done (completion.Abrupt (abrupt.Throw v))) = Some (throw_report r (value_of v))
+thrown_of r (answer.Done (completion.Abrupt (abrupt.Return v))) = None
+thrown_of r (answer.Done (completion.Abrupt (abrupt.Break l))) = None
+thrown_of r (answer.Done (completion.Abrupt (abrupt.Continue l))) = None

@@ -1,6 +1,6 @@
 ghost use Rattle.std.specs.Prelude.{◌≡◌, ◌≤◌, ◌<◌, List, ℕ, Some, None, [], ◌∷◌, OnOk, IfOk, IfSome, IsErrOf, Option};
 ghost use Rattle.std.specs.Io.KnownBytes.{Appends};
-ghost use Rattle.sr_ast.specs.Script.{Script};
+ghost use Rattle.sr_ast.specs.declared.reading.Reading.{Reading};
 ghost use Rattle.sr_ast.specs.declared.tree.Node.{out-Node};
 ghost use Rattle.sr_model.specs.Values.{Text};
 ghost use Rattle.sr_outside.specs.Counts.{Rose};
@@ -13,7 +13,7 @@ ghost use Rattle.sr_machine.specs.Running.{opened, given, answer_of, thrown_of, 
 
 use crate::reports::report;
 use sqlite_items::Items;
-use sr_ast::{Node, ScriptCode};
+use sr_ast::{Node, SourceCode};
 use sr_outside::{Sink, WriteRefusal};
 use sr_state::{Abrupt, Activity, Answer, Completion, Frame, Next, State, StopName};
 use sr_text::Str;
@@ -60,7 +60,7 @@ pub enum Ended {
 /// The rules by which a frame goes on.
 #[derive(Clone, Copy, Debug, PartialEq, Eq)]
 enum Rules {
-    /// Those of statements and scripts.
+    /// Those of statements and sources.
     Statements,
     /// Those of expressions.
     Expressions,
@@ -68,7 +68,7 @@ enum Rules {
     BuiltIns,
 }
 
-/// The run of a script.
+/// The run of a source.
 pub struct Live {
     alloc: Global,
     state: State,
@@ -111,25 +111,25 @@ impl Live {
         })
     }
 
-    /// Gives the run a script to run.
-    pub fn give_script(&mut self, script: ScriptCode) -> Result<(), AllocError>
-        ensures { OnOk result ((bound : ℕ) → self.old ≡ opened bound → self.new ≡ given bound script) }
+    /// Gives the run a source to run.
+    pub fn give_source(&mut self, source: SourceCode) -> Result<(), AllocError>
+        ensures { OnOk result ((bound : ℕ) → self.old ≡ opened bound → self.new ≡ given bound source) }
     {
         self.state.push(Frame {
-            activity: Activity::Script(0, script),
+            activity: Activity::Source(0, source),
             stage: 0,
             kept: Items::new(self.alloc),
             calls: 0,
         })
     }
 
-    /// The report of the throw in which the script ended, once nothing is left to do; none where it ended normally.
+    /// The report of the throw in which the source ended, once nothing is left to do; none where it ended normally.
     pub fn thrown(&self) -> Result<Option<Str>, AllocError>
-        ensures { IfOk result (λ text. text ≡ (let h = self.now.held in thrown_of h.answer)) }
+        ensures { IfOk result (λ text. text ≡ (let h = self.now.held in let x = h.side in thrown_of x.realm h.answer)) }
     {
         match self.state.answer() {
             Answer::Done(Completion::Abrupt(Abrupt::Throw(value))) => {
-                Ok(Some(report(self.alloc, value)?))
+                Ok(Some(report(self.alloc, &self.state, value)?))
             }
             Answer::Done(Completion::Abrupt(Abrupt::Return(_))) => Ok(None),
             Answer::Done(Completion::Abrupt(Abrupt::Break(_))) => Ok(None),
@@ -142,14 +142,14 @@ impl Live {
     /// Takes one step, in which at most one charge is paid and at most one line is printed, as one write. After a stop, a
     /// refused write or want of memory every further step answers the same and does nothing.
     pub fn advance<O: Sink>(&mut self, out: &mut O) -> Advance
-        ensures going { result ≡ Advance.Going → (read : Text → Option Script) → GoesOn read self.old.held self.new.held (O.written out.old) (O.written out.new) }
+        ensures going { result ≡ Advance.Going → (read : Text → Reading) → GoesOn read self.old.held self.new.held (O.written out.old) (O.written out.new) }
         ensures on { result ≡ Advance.Going → self.new.over ≡ None }
         ensures over { Remembers result self.new.over }
         ensures done { result ≡ Advance.Done → (self.old.held.frames ≡ []) × (self.new ≡ self.old) }
         ensures done_unwritten { result ≡ Advance.Done → O.written out.new ≡ O.written out.old }
-        ensures stop { self.old.over ≡ None → (s : _) → result ≡ Advance.Stop s → (read : Text → Option Script) → Stopped read s self.old.held self.new.held }
+        ensures stop { self.old.over ≡ None → (s : _) → result ≡ Advance.Stop s → (read : Text → Reading) → Stopped read s self.old.held self.new.held }
         ensures stop_unwritten { (s : _) → result ≡ Advance.Stop s → O.written out.new ≡ O.written out.old }
-        ensures write { result ≡ Advance.Write → self.old.over ≡ None → (read : Text → Option Script) → BreaksOff read self.old.held (O.written out.old) (O.written out.new) }
+        ensures write { result ≡ Advance.Write → self.old.over ≡ None → (read : Text → Reading) → BreaksOff read self.old.held (O.written out.old) (O.written out.new) }
         ensures cause { result ≡ Advance.Write → self.old.over ≡ None → Rose (O.faults out.old) (O.faults out.new) }
         ensures memory { result ≡ Advance.Memory → O.written out.new ≡ O.written out.old }
         ensures ended { IfSome self.old.over (λ end. (result ≡ answer_of end) × (self.new ≡ self.old) × (O.written out.new ≡ O.written out.old)) }
@@ -240,7 +240,7 @@ fn rules_of(activity: &Activity) -> Rules
                 Rules::Expressions
             }
         }
-        Activity::Script(_, _) => Rules::Statements,
+        Activity::Source(_, _) => Rules::Statements,
         Activity::BuiltIn(_) => Rules::BuiltIns,
     }
 }

@@ -1,9 +1,13 @@
-ghost use Rattle.std.specs.Prelude.{◌≡◌, ◌++◌, IfOk, codes, take};
+ghost use Rattle.std.specs.Prelude.{◌≡◌, ◌++◌, suc, IfOk, codes, take};
 ghost use Rattle.sr_conv.specs.Plain.{value_of, symbol_of};
 ghost use Rattle.sr_conv.specs.Conversions.{number_text};
 ghost use Rattle.sr_conv.specs.Reports as spec;
+ghost use Rattle.sr_model.specs.Globals.{error_in};
+ghost use Rattle.sr_state.specs.Errors.{name_text};
+ghost use Rattle.sr_machine.specs.Language.{error_report, throw_report};
 
 use sr_num::Num;
+use sr_state::{ErrorName, State};
 use sr_text::Str;
 use sr_value::{Symbol, Value, WellKnown};
 use std::alloc::{AllocError, Global};
@@ -52,9 +56,33 @@ fn symbol_units(alloc: Global, symbol: &Symbol) -> Result<Vec<u16>, AllocError>
     Ok(units)
 }
 
+/// The name of an error.
+fn error_name(name: ErrorName) -> &'static str
+    ensures { result.now ≡ name_text name }
+{
+    match name {
+        ErrorName::Syntax => "SyntaxError",
+    }
+}
+
+/// All code units that would be told of the object at a place, counted from 0.
+fn object_units(alloc: Global, state: &State, place: usize) -> Result<Vec<u16>, AllocError>
+    ensures { IfOk result (λ units. units.items ≡ error_report (error_in state.now.side.realm (suc place))) }
+{
+    match state.error(place) {
+        None => letters(alloc, b"object"),
+        Some(error) => {
+            let mut units = letters(alloc, error_name(error.name).as_bytes())?;
+            units.extend_from_slice(&letters(alloc, b": ")?)?;
+            units.extend_from_slice(error.message.units())?;
+            Ok(units)
+        }
+    }
+}
+
 /// All code units that would be told of a value.
-fn units_of(alloc: Global, value: &Value) -> Result<Vec<u16>, AllocError>
-    ensures { IfOk result (λ units. units.items ≡ spec.value_report (value_of value.now)) }
+fn units_of(alloc: Global, state: &State, value: &Value) -> Result<Vec<u16>, AllocError>
+    ensures { IfOk result (λ units. units.items ≡ spec.value_report (λ n. error_report (error_in state.now.side.realm n)) (value_of value.now)) }
 {
     match value {
         Value::Undefined => letters(alloc, b"undefined"),
@@ -64,16 +92,16 @@ fn units_of(alloc: Global, value: &Value) -> Result<Vec<u16>, AllocError>
         Value::Num(n) => number_units(alloc, *n),
         Value::Str(text) => Vec::from_slice(alloc, text.units()),
         Value::Sym(symbol) => symbol_units(alloc, symbol),
-        Value::Obj(_) => letters(alloc, b"object"),
+        Value::Obj(object) => object_units(alloc, state, object.place()),
     }
 }
 
 /// What is told of a value that was thrown and not caught: at most its first 16,777,216 code units.
 #[tactic(auto, unfolding(sr_conv::specs::Reports::report))]
-pub(crate) fn report(alloc: Global, value: &Value) -> Result<Str, AllocError>
-    ensures { IfOk result (λ text. text ≡ spec.report (value_of value.now)) }
+pub(crate) fn report(alloc: Global, state: &State, value: &Value) -> Result<Str, AllocError>
+    ensures { IfOk result (λ text. text ≡ throw_report state.now.side.realm (value_of value.now)) }
 {
-    let units = units_of(alloc, value)?;
+    let units = units_of(alloc, state, value)?;
     let told = units.len().min(MAX_UNITS);
     match Str::of_units(alloc, &units[..told]) {
         Ok(text) => Ok(text),

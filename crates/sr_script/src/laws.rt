@@ -1,11 +1,11 @@
-ghost use Rattle.sr_script.specs.Built.{OneScript};
+ghost use Rattle.sr_script.specs.Built.{OneReading};
 
 use sr_parse::laws;
 
-/// A text is one script at most.
+/// A text has one reading at most.
 #[tactic(auto, using(crate::proofs::Built::one_built))]
-pub fn one_script()
-    ensures { OneScript }
+pub fn one_reading()
+    ensures { OneReading }
 {
     laws::one_script();
 }

@@ -1,4 +1,4 @@
-//! The scripts that are built.
+//! What a text is: a script that is built, one that is not, or no script.
 #![tactic(auto)]
 
 /// The names that a script declares.
@@ -9,12 +9,12 @@ mod form;
 pub mod laws;
 /// The names that trees declare.
 mod names;
-/// The script that a text is.
+/// What a text is as a script.
 mod script;
 /// Names that are told from others.
 mod words;
 
-pub use script::read_script;
+pub use script::read_source;
 
 #[cfg(test)]
 mod tests;

@@ -1,24 +1,21 @@
-ghost use Rattle.std.specs.Prelude.{◌≡◌, ◌≤◌, All, IsTrue, IfOk, IfSome, IfNone, length};
+ghost use Rattle.std.specs.Prelude.{◌≡◌, All, IfOk, IfSome, IfNone};
 ghost use Rattle.sr_lex.specs.Tokens.{Tokens, IsTokenOf};
+ghost use Rattle.sr_ast.specs.declared.reading.Reading.{Reading};
 ghost use Rattle.sr_ast.specs.Script.{Script};
 ghost use Rattle.sr_script.specs.Names.{script_names};
-ghost use Rattle.sr_script.specs.Form.{script_fits};
-ghost use Rattle.sr_script.specs.Built.{HasBody, IsBuilt};
+ghost use Rattle.sr_script.specs.Built.{HasBody, IsReading, IsSource};
 ghost use Rattle.sr_script.specs.Built as spec;
 
 use crate::declared::Names;
 use crate::form::script_fits;
 use crate::names::put_all;
 use sqlite_items::Items;
-use sr_ast::{ScriptCode, Tree};
+use sr_ast::{Reading, Refused, ScriptCode, SourceCode, Tree};
 use sr_lex::{LexRefusal, Token, TokenKind, lex};
 use sr_parse::{Refusal, parse_statements};
 use sr_shared::Shared;
 use sr_text::Str;
 use std::alloc::{AllocError, Global};
-
-/// The most code units that the text of a script has.
-const MAX_UNITS: usize = 65_536;
 
 /// Whether the first token is a string literal.
 fn begins_with_string(tokens: &[Token]) -> bool
@@ -39,54 +36,68 @@ fn names_of(alloc: Global, body: &[Shared<Tree>]) -> Result<Names, AllocError>
     Names::new(alloc, list)
 }
 
-/// The script of these statements; none where they are not of the form.
+/// The script of these tokens and statements; none where it is not built.
 fn of_statements(
     alloc: Global,
+    tokens: &[Token],
     body: Items<Shared<Tree>>,
-    units: usize,
 ) -> Result<Option<ScriptCode>, AllocError>
-    ensures script { IfOk result (λ read. IfSome read (HasBody body units)) }
-    ensures no_script { IfOk result (λ read. IfNone read (¬ (IsTrue (script_fits (script_names body) body)))) }
+    ensures script { IfOk result (λ read. IfSome read (HasBody tokens.now body)) }
+    ensures no_script { IfOk result (λ read. IfNone read ((x : Script) → ¬ (HasBody tokens.now body x))) }
 {
+    if begins_with_string(tokens) {
+        return Ok(None);
+    }
     let names = names_of(alloc, body.as_slice())?;
     if script_fits(&names, body.as_slice()) {
-        let script = ScriptCode::new(alloc, body, names.into_list(), units)?;
+        let script = ScriptCode::new(alloc, body, names.into_list())?;
         Ok(Some(script))
     } else {
         Ok(None)
     }
 }
 
-/// The script that the tokens of the text are; none where they are no script that is built.
-fn of_tokens(alloc: Global, text: &Str, tokens: &[Token]) -> Result<Option<ScriptCode>, AllocError>
-    requires short { length text.now ≤ 65536 }
+/// What the text of these tokens is; none where it is a script that is not built.
+fn of_tokens(alloc: Global, text: &Str, tokens: &[Token]) -> Result<Option<Reading>, AllocError>
     requires tokens { Tokens text.now tokens.now }
     requires each { All (IsTokenOf text.now) tokens.now }
-    ensures script { IfOk result (λ read. IfSome read (IsBuilt text.now)) }
-    ensures no_script { IfOk result (λ read. IfNone read ((x : Script) → ¬ (IsBuilt text.now x))) }
+    ensures reading { IfOk result (λ read. IfSome read (IsReading text.now)) }
+    ensures no_reading { IfOk result (λ read. IfNone read ((r : Reading) → ¬ (IsReading text.now r))) }
 {
-    if begins_with_string(tokens) {
-        return Ok(None);
-    }
     match parse_statements(alloc, text, tokens) {
-        Ok(body) => of_statements(alloc, body, text.units().len()),
-        Err(Refusal::Syntax(_)) => Ok(None),
-        Err(Refusal::TooDeep) => Ok(None),
+        Ok(body) => match of_statements(alloc, tokens, body)? {
+            Some(script) => Ok(Some(Reading::Script(script))),
+            None => Ok(None),
+        },
+        Err(Refusal::Syntax(at)) => Ok(Some(Reading::Refused(Refused::Syntax(at)))),
+        Err(Refusal::TooDeep) => Ok(Some(Reading::Refused(Refused::TooDeep))),
         Err(Refusal::Memory) => Err(AllocError),
     }
 }
 
-/// The script that the text is (ECMA-262 16.1); none where it is no script that is built.
-pub fn read_script(alloc: Global, text: &Str) -> Result<Option<ScriptCode>, AllocError>
-    ensures script { IfOk result (λ read. IfSome read (IsBuilt text.now)) }
-    ensures no_script { IfOk result (λ read. IfNone read ((x : Script) → ¬ (IsBuilt text.now x))) }
+/// What the text is (ECMA-262 16.1.6); none where it is a script that is not built.
+fn read_text(alloc: Global, text: &Str) -> Result<Option<Reading>, AllocError>
+    ensures reading { IfOk result (λ read. IfSome read (IsReading text.now)) }
+    ensures no_reading { IfOk result (λ read. IfNone read ((r : Reading) → ¬ (IsReading text.now r))) }
 {
-    if text.units().len() > MAX_UNITS {
-        return Ok(None);
-    }
     match lex(alloc, text) {
         Ok(tokens) => of_tokens(alloc, text, &tokens),
-        Err(LexRefusal::Syntax(_)) => Ok(None),
+        Err(LexRefusal::Syntax(at)) => Ok(Some(Reading::Refused(Refused::Syntax(at)))),
         Err(LexRefusal::Memory) => Err(AllocError),
+    }
+}
+
+/// The source of the text: what it is, and how many code units it has (ECMA-262 16.1.6). A text that is no script is one too;
+/// there is none where the text is a script that is not built.
+pub fn read_source(alloc: Global, text: &Str) -> Result<Option<SourceCode>, AllocError>
+    ensures source { IfOk result (λ read. IfSome read (IsSource text.now)) }
+    ensures no_source { IfOk result (λ read. IfNone read ((r : Reading) → ¬ (IsReading text.now r))) }
+{
+    match read_text(alloc, text)? {
+        Some(reading) => Ok(Some(SourceCode {
+            reading,
+            units: text.units().len(),
+        })),
+        None => Ok(None),
     }
 }

@@ -1,10 +1,11 @@
-use crate::read_script;
+use crate::read_source;
+use sr_ast::{Reading, Refused};
 use sr_text::Str;
 use std::alloc::Global;
 use std::test::Fail;
 
-/// Texts, and the names that they declare, each with a comma after it, where they are built.
-const TEXTS: [(&str, Option<&str>); 62] = [
+/// Scripts, and the names that they declare, each with a comma after it, where they are built.
+const TEXTS: [(&str, Option<&str>); 59] = [
     ("", Some("")),
     ("print('a');", Some("")),
     ("var a = 1; print(a);", Some("a,")),
@@ -44,7 +45,6 @@ const TEXTS: [(&str, Option<&str>); 62] = [
     ("; 'use strict';", Some("")),
     ("typeof x;", None),
     ("var x; typeof x;", Some("x,")),
-    ("void -~!0 ** 2;", None),
     ("void -~!0;", Some("")),
     ("1 + x;", None),
     ("x && 1;", None),
@@ -68,8 +68,18 @@ const TEXTS: [(&str, Option<&str>); 62] = [
     ("for (x = 1;;);", None),
     ("for (; 1; x);", None),
     ("for (var i; x;);", None),
-    ("var 1;", None),
-    ("print('a);", None),
+];
+
+/// Texts that are no script, each with the place at which it breaks off.
+const BROKEN: [(&str, usize); 8] = [
+    ("1+", 2),
+    ("void -~!0 ** 2;", 10),
+    ("var 1;", 4),
+    ("print('a);", 6),
+    ("print(\"a", 6),
+    ("'a' 'b'", 4),
+    ("print(a);)", 9),
+    ("print(b); 'a", 10),
 ];
 
 /// Texts of the grammar that are not built.
@@ -90,10 +100,18 @@ const NOT_BUILT: [&str; 14] = [
     "var a; a?.b;",
 ];
 
-/// The names that a text declares, each with a comma after it, where it is built.
-fn names_of(alloc: Global, text: &str) -> Result<Option<Vec<u8>>, Fail> {
+/// What a text is as it is read; none where it is a script that is not built.
+fn reading_of(alloc: Global, text: &str) -> Result<Option<Reading>, Fail> {
     let text = Str::from_utf8(alloc, text.as_bytes())?;
-    let Some(script) = read_script(alloc, &text)? else {
+    match read_source(alloc, &text)? {
+        Some(source) => Ok(Some(source.reading)),
+        None => Ok(None),
+    }
+}
+
+/// The names that a script declares, each with a comma after it, where it is built.
+fn names_of(alloc: Global, text: &str) -> Result<Option<Vec<u8>>, Fail> {
+    let Some(Reading::Script(script)) = reading_of(alloc, text)? else {
         return Ok(None);
     };
     let mut names = Vec::new(alloc);
@@ -102,6 +120,11 @@ fn names_of(alloc: Global, text: &str) -> Result<Option<Vec<u8>>, Fail> {
         names.push(b',')?;
     }
     Ok(Some(names))
+}
+
+/// Whether a text is a script that is not built.
+fn is_not_built(alloc: Global, text: &str) -> Result<bool, Fail> {
+    Ok(reading_of(alloc, text)?.is_none())
 }
 
 #[test]
@@ -113,7 +136,10 @@ fn reads_scripts(rt: HostRuntime) -> Result<(), Fail> {
                 names.is_some_and(|n| n.as_bytes() == found.as_slice()),
                 "of {text:?}"
             ),
-            None => assert!(rt; names.is_none(), "of {text:?}"),
+            None => assert!(rt;
+                names.is_none() && is_not_built(alloc, text)?,
+                "of {text:?}"
+            ),
         }
     }
     Ok(())
@@ -123,8 +149,43 @@ fn reads_scripts(rt: HostRuntime) -> Result<(), Fail> {
 fn leaves_what_is_not_built(rt: HostRuntime) -> Result<(), Fail> {
     let alloc = rt.alloc();
     for text in NOT_BUILT {
-        assert!(rt; names_of(alloc, text)?.is_none(), "of {text:?}");
+        assert!(rt; is_not_built(alloc, text)?, "of {text:?}");
     }
+    Ok(())
+}
+
+#[test]
+fn names_the_place_of_a_failure(rt: HostRuntime) -> Result<(), Fail> {
+    let alloc = rt.alloc();
+    for (text, place) in BROKEN {
+        match reading_of(alloc, text)? {
+            Some(Reading::Refused(why)) => {
+                assert!(rt; why == Refused::Syntax(place), "of {text:?}")
+            }
+            _ => panic!(rt; "of {text:?}"),
+        }
+    }
+    Ok(())
+}
+
+/// Why so many `!` before `0` are no script.
+fn refusal_of_negations(alloc: Global, count: usize) -> Result<Option<Refused>, Fail> {
+    let mut text = Vec::from_elem(alloc, 0x21, count)?;
+    text.push(0x30)?;
+    match read_source(alloc, &Str::of_units(alloc, &text)?)? {
+        Some(source) => match source.reading {
+            Reading::Refused(why) => Ok(Some(why)),
+            Reading::Script(_) => Ok(None),
+        },
+        None => Ok(None),
+    }
+}
+
+#[test]
+fn refuses_what_is_too_deep(rt: HostRuntime) -> Result<(), Fail> {
+    let alloc = rt.alloc();
+    assert!(rt; refusal_of_negations(alloc, 900)?.is_none());
+    assert!(rt; refusal_of_negations(alloc, 1001)? == Some(Refused::TooDeep));
     Ok(())
 }
 
@@ -135,29 +196,30 @@ fn takes_a_directive_after_a_statement(rt: HostRuntime) -> Result<(), Fail> {
     Ok(())
 }
 
-/// Whether a text of so many spaces is built.
-fn is_built(alloc: Global, spaces: usize) -> Result<bool, Fail> {
-    let text = Str::of_units(alloc, &Vec::from_elem(alloc, 0x20, spaces)?)?;
-    Ok(read_script(alloc, &text)?.is_some())
-}
-
 #[test]
-fn limits_units(rt: HostRuntime) -> Result<(), Fail> {
+fn counts_units_and_statements(rt: HostRuntime) -> Result<(), Fail> {
     let alloc = rt.alloc();
-    assert!(rt; is_built(alloc, 65_536)?);
-    assert!(rt; !is_built(alloc, 65_537)?);
+    let text = Str::from_utf8(alloc, b"var a; print(a);")?;
+    let Some(source) = read_source(alloc, &text)? else {
+        panic!(rt; "it is built")
+    };
+    assert_eq!(rt; source.units, 16);
+    let Reading::Script(script) = source.reading else {
+        panic!(rt; "it is a script")
+    };
+    assert!(rt; script.statement(1).is_some());
+    assert!(rt; script.statement(2).is_none());
     Ok(())
 }
 
 #[test]
-fn counts_statements(rt: HostRuntime) -> Result<(), Fail> {
+fn reads_long_texts(rt: HostRuntime) -> Result<(), Fail> {
     let alloc = rt.alloc();
-    let text = Str::from_utf8(alloc, b"var a; print(a);")?;
-    let Some(script) = read_script(alloc, &text)? else {
+    let text = Str::of_units(alloc, &Vec::from_elem(alloc, 0x20, 70_000)?)?;
+    let Some(source) = read_source(alloc, &text)? else {
         panic!(rt; "it is built")
     };
-    assert_eq!(rt; script.units(), 16);
-    assert!(rt; script.statement(1).is_some());
-    assert!(rt; script.statement(2).is_none());
+    assert_eq!(rt; source.units, 70_000);
+    assert!(rt; matches!(source.reading, Reading::Script(_)));
     Ok(())
 }

@@ -44,6 +44,8 @@ abbrev pub IsStop : StopName → model.Stop → Type 0
 IsStop (stop.Number s) y = model.Number (number_stop_of s) ≡ y
 IsStop stop.StringLength y = model.StringLength ≡ y
 IsStop stop.CallDepth y = model.CallDepth ≡ y
+IsStop stop.SyntaxDepth y = model.SyntaxDepth ≡ y
+IsStop (stop.Unsupported marker at) y = model.Unsupported marker at ≡ y
 IsStop (stop.Steps used cost) y = ⊥
 
 -- a step stopped the run by this stop

@@ -1,7 +1,7 @@
 ghost use Rattle.std.specs.Prelude.{◌≡◌, [], IfOk};
 
 use sqlite_items::Items;
-use sr_ast::{Code, ScriptCode};
+use sr_ast::{Code, SourceCode};
 use sr_value::Value;
 use std::alloc::Global;
 
@@ -17,8 +17,8 @@ pub enum BuiltIn {
 pub enum Activity {
     /// A tree of the source of this number.
     Tree(u32, Code),
-    /// The script of a source; its number is 0 until it is accepted.
-    Script(u32, ScriptCode),
+    /// A source text; its number is 0 until it is accepted.
+    Source(u32, SourceCode),
     /// A call of a built-in function, with the arguments as the values that are kept at first.
     BuiltIn(BuiltIn),
 }

@@ -3,6 +3,8 @@
 
 /// How parts and steps end.
 mod ends;
+/// Error objects.
+mod errors;
 /// Frames.
 mod frame;
 /// The names of the global object.
@@ -11,5 +13,6 @@ mod globals;
 mod state;
 
 pub use ends::{Abrupt, Answer, Charge, Completion, Leaving, Next, StopName};
+pub use errors::{ErrorName, ErrorObject, syntax_message};
 pub use frame::{Activity, BuiltIn, Frame};
 pub use state::State;

@@ -1,13 +1,17 @@
-ghost use Rattle.std.specs.Prelude.{◌≡◌, ◌∷◌, [], OnOk, IfOk, MatchOption};
+ghost use Rattle.std.specs.Prelude.{◌≡◌, ◌∷◌, [], suc, option_map, OnOk, IfOk, MatchOption};
+ghost use Rattle.sr_model.specs.Values.{Object};
 ghost use Rattle.sr_conv.specs.Plain.{value_of, option_of};
-ghost use Rattle.sr_model.specs.Globals.{assigned, accepted, global_value, next_source};
+ghost use Rattle.sr_model.specs.Globals.{assigned, accepted, error_made, error_in, global_value, next_object, next_source};
+ghost use Rattle.sr_state.specs.Errors.{name_text, error_of};
 ghost use Rattle.sr_state.specs.Held.{Charges, Begins, first, with_side, line_in, change_in};
 
 use crate::ends::{Answer, Charge, Next, StopName};
+use crate::errors::{ErrorName, ErrorObject};
 use crate::frame::Frame;
 use crate::globals::Globals;
 use sqlite_items::Items;
 use sr_ast::ScriptCode;
+use sr_tag::{Ref, Tag};
 use sr_text::Str;
 use sr_value::Value;
 use std::alloc::{AllocError, Global};
@@ -18,6 +22,7 @@ use std::marker::Model;
 pub struct State {
     globals: Globals,
     sources: u32,
+    errors: Items<ErrorObject>,
     last_source: u32,
     last_at: usize,
     lines: Items<Str>,
@@ -33,6 +38,7 @@ impl Model for State {
     ghost use Rattle.sr_ast.specs.contracts.tree.Tree as kind;
     ghost use Rattle.sr_model.specs.Values.{root};
     ghost use Rattle.sr_state.specs.Held.{Held};
+    ghost use Rattle.sr_state.specs.Errors.{errors_of};
 
     ghost Value = { Held };
 
@@ -50,7 +56,7 @@ impl Model for State {
             children = 0;
             imports = 0;
             symbols = 0;
-            rest = record { globals = s.globals; sources = s.sources; last = record { source = s.last_source; at = s.last_at } };
+            rest = record { globals = s.globals; sources = s.sources; errors = errors_of s.errors; last = record { source = s.last_source; at = s.last_at } };
           };
           lines = s.lines;
           own = s.used;
@@ -75,6 +81,7 @@ impl State {
         Ok(State {
             globals: Globals::new(alloc)?,
             sources: 0,
+            errors: Items::new(alloc),
             last_source: 0,
             last_at: 0,
             lines: Items::new(alloc),
@@ -110,6 +117,23 @@ impl State {
         ensures { OnOk result (self.new ≡ with_side self.old (change_in (assigned name.now (value_of value)) self.old.side)) }
     {
         self.globals.set(name, value)
+    }
+
+    /// Makes an error object, and answers its value (ECMA-262 20.5.1.1).
+    pub fn make_error(&mut self, name: ErrorName, message: Str) -> Result<Value, AllocError>
+        ensures value { IfOk result (λ v. value_of v ≡ Object (next_object self.old.side.realm)) }
+        ensures made { OnOk result (self.new ≡ with_side self.old (change_in (error_made (record { name = name_text name; message = message })) self.old.side)) }
+    {
+        let place = self.errors.len();
+        self.errors.push(ErrorObject { name, message })?;
+        Ok(Value::Obj(Ref::at(Tag { number: 0 }, place)))
+    }
+
+    /// The error object at a place, counted from 0: the one that is numbered from 1 by one more.
+    pub fn error(&self, place: usize) -> Option<&ErrorObject>
+        ensures { option_map (λ e. error_of e.now) result ≡ error_in self.now.side.realm (suc place) }
+    {
+        self.errors.get(place)
     }
 
     /// Prints a line, as far as the realm remembers it.

@@ -1,5 +1,5 @@
 pub mod Drops
 pub mod Valued
-pub mod Reading
+pub mod Sources
 pub mod Bodies
 pub mod Layers

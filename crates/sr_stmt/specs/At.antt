@@ -4,7 +4,9 @@ use Rattle.sr_ast.specs.declared.tree.Tree.{Tree}
 use Rattle.sr_ast.specs.declared.tree.Declaration.{Declaration}
 use Rattle.sr_ast.specs.declared.tree.Element.TheOpen as layer
 use Rattle.sr_ast.specs.Layer.{Layer}
-use Rattle.sr_ast.specs.Script.{Script}
+use Rattle.sr_ast.specs.declared.reading.Reading.{Reading}
+use Rattle.sr_ast.specs.declared.reading.Reading.TheVariants as reading
+use Rattle.sr_ast.specs.declared.reading.SourceCode.{SourceCode}
 use Rattle.sr_model.specs.Values.{Value}
 use Rattle.sr_model.specs.Outcomes.{Normal}
 use Rattle.sr_model.specs.Scripts.{give}
@@ -85,8 +87,13 @@ statement_at s e at (layer.While test body) = while_at s e at test body
 statement_at s e at (layer.For first test update body) = for_at s e at first test update body
 statement_at s e at l = λ n kept. nowhere
 
--- a script, of a source of this number once it is accepted; at stage n + 2 the statements from the n-th on are left
-abbrev pub script_at : ℕ → Script → ℕ → List Value → Steps
-script_at s x zero kept = source x
-script_at s x (suc zero) kept = read_source x
-script_at s x (suc (suc n)) kept = statements s 0 (drop n x.body) (kept_value kept)
+-- a source of this number, which has been read: the statements from the n-th on are left
+abbrev pub script_at : ℕ → Reading → ℕ → List Value → Steps
+script_at s (reading.Script x) n kept = statements s 0 (drop n x.body) (kept_value kept)
+script_at s (reading.Refused e) n kept = nowhere
+
+-- a source, of this number once it is accepted. At stage 1 its text is to be paid, and after that it has been read
+abbrev pub source_at : ℕ → SourceCode → ℕ → List Value → Steps
+source_at s x zero kept = source x
+source_at s x (suc zero) kept = read_source x
+source_at s x (suc (suc n)) kept = script_at s x.reading n kept

@@ -3,13 +3,18 @@ use Rattle.std.specs.Prelude.{ℕ, ◌/◌, List, [], ◌∷◌, Option, None, S
 use Rattle.sr_ast.specs.declared.tree.Tree.{Tree}
 use Rattle.sr_ast.specs.declared.tree.Declaration.{Declaration, out-Declaration}
 use Rattle.sr_ast.specs.Script.{Script}
+use Rattle.sr_ast.specs.declared.reading.Reading.{Reading}
+use Rattle.sr_ast.specs.declared.reading.Reading.TheVariants as reading
+use Rattle.sr_ast.specs.declared.reading.SourceCode.{SourceCode}
+use Rattle.sr_ast.specs.declared.refused.Refused.TheVariants as refused
 use Rattle.sr_model.specs.Values.{Text, Value, Simple, Undefined}
-use Rattle.sr_model.specs.Outcomes.{Normal, Abrupt, Leave}
+use Rattle.sr_model.specs.Outcomes.{Normal, Abrupt, Leave, Unsupported, SyntaxDepth}
 use Rattle.sr_model.specs.Tasks.{Gave, Paid, Queued, Brought, Replied, Kept, Run, Part, Give, Turned}
-use Rattle.sr_model.specs.Scripts.{onward, give, charge, pay, changed}
+use Rattle.sr_model.specs.Scripts.{onward, give, halt, charge, pay, changed}
 use Rattle.sr_model.specs.Globals.{Holds, assigned, accepted, next_source, either}
 use Rattle.sr_conv.specs.Conversions.{to_boolean}
 use Rattle.sr_state.specs.Work.{Work, Steps}
+use Rattle.sr_state.specs.Errors.{throw_syntax_error}
 use Rattle.sr_state.specs.Trees.{value_in, give_value, begin, evaluated, valued}
 
 -- 6.2.4.3 UpdateEmpty: an empty value leaves the one before it
@@ -132,9 +137,16 @@ accept x (Queued ∷ got) r = accept x got r
 accept x (Brought o ∷ got) r = accept x got r
 accept x (Replied o ∷ got) r = accept x got r
 
--- a source is taken: a step for the event, one for each 256 code units of its text before it is read, and the script
-abbrev pub read_source : Script → Steps
-read_source x = pay (x.units / 256) (accept x)
+-- 16.1.6: a text that is no script ends by a SyntaxError, or by a stop
+abbrev pub read_text : Reading → Steps
+read_text (reading.Script x) = accept x
+read_text (reading.Refused (refused.Syntax at)) = throw_syntax_error at
+read_text (reading.Refused (refused.Unsupported marker at)) = halt (Unsupported marker at)
+read_text (reading.Refused refused.TooDeep) = halt SyntaxDepth
 
-abbrev pub source : Script → Steps
+-- a source is taken: a step for the event, one for each 256 code units of its text before it is read, and what it is
+abbrev pub read_source : SourceCode → Steps
+read_source x = pay (x.units / 256) (read_text x.reading)
+
+abbrev pub source : SourceCode → Steps
 source x = charge 1 (read_source x)

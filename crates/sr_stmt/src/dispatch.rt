@@ -1,40 +1,40 @@
 ghost use Rattle.std.specs.Prelude.{◌≡◌, ℕ, IfOk};
 ghost use Rattle.sr_ast.specs.declared.tree.Tree.{Tree};
 ghost use Rattle.sr_ast.specs.Layer.{layer_of};
-ghost use Rattle.sr_ast.specs.Script.{Script};
+ghost use Rattle.sr_ast.specs.declared.reading.SourceCode.{SourceCode};
 ghost use Rattle.sr_state.specs.declared.frame.Activity.TheVariants as activity;
 ghost use Rattle.sr_state.specs.Step.{StepsBy};
 ghost use Rattle.sr_stmt.specs.At.{statement_at};
-ghost use Rattle.sr_stmt.specs.Scripts.{ScriptSteps};
+ghost use Rattle.sr_stmt.specs.Scripts.{SourceSteps};
 
 use crate::choice::choice;
 use crate::lists::block;
 use crate::loops::{do_loop, for_loop, while_loop};
 use crate::parts::nowhere;
-use crate::scripts::script;
+use crate::scripts::source;
 use crate::simple::{empty, expression};
 use crate::variables::variables;
 use sr_ast::{Node, Tree};
 use sr_state::{Activity, Frame, Next, State};
 use std::alloc::{AllocError, Global};
 
-/// A step of a frame on top of the stack, of a statement or a script.
+/// A step of a frame on top of the stack, of a statement or a source.
 pub fn step(alloc: Global, state: &mut State, frame: &mut Frame) -> Result<Next, AllocError>
     ensures tree { IfOk result (λ next. (source : ℕ) (t : Tree) → frame.old.activity ≡ activity.Tree source t
         → StepsBy (statement_at source 0 t.from (layer_of t)) frame.old state.old next state.new) }
-    ensures script { IfOk result (λ next. (source : ℕ) (x : Script) → frame.old.activity ≡ activity.Script source x
-        → ScriptSteps source x frame.old state.old next state.new) }
+    ensures source { IfOk result (λ next. (number : ℕ) (x : SourceCode) → frame.old.activity ≡ activity.Source number x
+        → SourceSteps number x frame.old state.old next state.new) }
 {
     match &frame.activity {
-        Activity::Tree(source, code) => {
-            let source = *source;
+        Activity::Tree(number, code) => {
+            let number = *number;
             let code = code.share()?;
-            statement(alloc, state, frame, source, code.get())
+            statement(alloc, state, frame, number, code.get())
         }
-        Activity::Script(source, code) => {
-            let source = *source;
+        Activity::Source(number, code) => {
+            let number = *number;
             let code = code.share()?;
-            script(alloc, state, frame, source, &code)
+            source(alloc, state, frame, number, &code)
         }
         Activity::BuiltIn(_) => Ok(nowhere(state)),
     }

@@ -1,4 +1,4 @@
-//! The steps of statements and scripts.
+//! The steps of statements and sources.
 #![tactic(auto)]
 
 /// A step of `if`.
@@ -13,7 +13,7 @@ mod lists;
 mod loops;
 /// What the arms have in common.
 mod parts;
-/// A step of a script.
+/// A step of a source.
 mod scripts;
 /// A step of a statement that is no list and no loop.
 mod simple;

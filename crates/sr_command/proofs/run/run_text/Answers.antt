@@ -1,15 +1,20 @@
-use Rattle.sr_ast.specs.Script.{Script}
-use Rattle.sr_script.specs.Built.{IsBuilt}
-use Rattle.sr_command.specs.Runs.{no_script, script}
+use Rattle.sr_ast.specs.declared.reading.Reading.{Reading}
+use Rattle.sr_script.specs.Built.{IsReading, IsSource}
+use Rattle.sr_command.specs.Runs.{no_reading, read}
 use Rattle.sr_command.proofs.Reached.{reached, reached_along}
 use Rattle.sr_command.proofs.run.run_text.Goals as goal
 
+pub run_source-requires : goal.run_source-requires
+run_source-requires g c =
+    let is : IsSource c.args.text.now c.in-Some.source = rw c.in-Some.is at c.in_ok-source.ensures.source in
+    (c.args.text.now, is.units)
+
 pub returns-in-Some-clause-reaches : goal.returns-in-Some-clause-reaches
 returns-in-Some-clause-reaches g c =
-    let is : IsBuilt c.args.text.now c.in-Some.script = rw c.in-Some.is at c.in_ok-script.ensures.script in
-    reached_along (λ course runs. script is runs) (c.run_script.ensures.reaches c.args.text.now)
+    let is : IsSource c.args.text.now c.in-Some.source = rw c.in-Some.is at c.in_ok-source.ensures.source in
+    reached_along (λ course runs. read is.reads runs) (c.run_source.ensures.reaches c.args.text.now is.units)
 
 pub returns-in-None-clause-reaches : goal.returns-in-None-clause-reaches
 returns-in-None-clause-reaches g c =
-    let not : (x : Script) → ¬ (IsBuilt c.args.text.now x) = rw c.in-None.is at c.in_ok-script.ensures.no_script in
-    reached _ (no_script not) (c.end_not_built.ensures.comes _)
+    let not : (r : Reading) → ¬ (IsReading c.args.text.now r) = rw c.in-None.is at c.in_ok-source.ensures.no_source in
+    reached _ (no_reading not) (c.end_not_built.ensures.comes _)

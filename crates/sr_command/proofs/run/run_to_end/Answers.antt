@@ -1,4 +1,4 @@
-use Rattle.std.proofs.Common.{refl, ap, [], arith}
+use Rattle.std.proofs.Common.{refl, ap, arith}
 use Rattle.sr_machine.specs.Running.{Running}
 use Rattle.sr_command.proofs.Running.{start_under, goes_under, falls_under}
 use Rattle.sr_command.proofs.RunEnds.{starved, broken, done, stopped_by}
@@ -6,7 +6,7 @@ use Rattle.sr_command.proofs.run.run_to_end.Goals as goal
 
 pub steps-init : goal.steps-init
 steps-init g c = record {
-  open_run = rw c.requires.1 refl;
+  open_run = rw c.requires.2 refl;
   so_far = λ text x is. start_under c.args.bound c.args.name.now text x _ _ is;
   faults = omega arith;
   err_written = refl;
@@ -25,14 +25,14 @@ steps-preserved g c =
     }
 
 pub steps-smaller : goal.steps-smaller
-steps-smaller g c = falls_under _ _ [] c.requires.0 _ _ _ (c.steps.invariant.so_far [] c.requires.0 c.requires.1) _ _ (c.in-Going.ensures.going refl _)
+steps-smaller g c = falls_under _ _ c.requires.0 c.requires.1 _ _ _ (c.steps.invariant.so_far c.requires.0 c.requires.1 c.requires.2) _ _ (c.in-Going.ensures.going refl _)
 
 pub returns-in-Done-clause-reaches : goal.returns-in-Done-clause-reaches
 returns-in-Done-clause-reaches g c =
     let so = c.steps.invariant in
     let end = c.in-Done.ensures.done refl in
     λ text x is.
-    done _ _ text x _ _ _ (so.so_far text x is) c.end_of_run.result _ (g.E.Sink.written c.args.err.now) _ _ end.0 (c.in-Done.ensures.done_unwritten refl) (ap (λ (r : Running). let h = r.held in h.answer) end.1)
+    done _ _ text x _ _ _ (so.so_far text x is) c.end_of_run.result _ (g.E.Sink.written c.args.err.now) _ _ end.0 (c.in-Done.ensures.done_unwritten refl) (ap (λ (r : Running). r.held) end.1)
     (rw so.err_written at (c.end_of_run.ensures.comes (g.O.Sink.written c.advance.new.out)))
 
 pub returns-in-Stop-clause-reaches : goal.returns-in-Stop-clause-reaches

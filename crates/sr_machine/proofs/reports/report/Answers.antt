@@ -3,6 +3,8 @@ use Rattle.std.proofs.lemmas.List.{take_min}
 use Rattle.sr_value.specs.declared.value.Value.{Value}
 use Rattle.sr_conv.specs.Plain.{value_of}
 use Rattle.sr_conv.specs.Reports.{value_report, report}
+use Rattle.sr_model.specs.Globals.{error_in}
+use Rattle.sr_machine.specs.Language.{error_report}
 use Rattle.sr_machine.proofs.reports.report.Goals as goal
 
 -- the first units of a list are all that is told of it
@@ -11,11 +13,11 @@ told most count k units e l =
     (let same : k ≡ min most (length units) = omega (arith, e, l) in
     ap (λ n. take n units) same ∙ take_min most units)
 
-of_value : (v : Value) (text : List ℕ) → text ≡ take 16777216 (value_report (value_of v)) → text ≡ report (value_of v)
+of_value : (object : ℕ → List ℕ) (v : Value) (text : List ℕ) → text ≡ take 16777216 (value_report object (value_of v)) → text ≡ report object (value_of v)
 unfolding report
-of_value v text e = e
+of_value object v text e = e
 
 pub returns-in-Ok : goal.returns-in-Ok
 returns-in-Ok c =
-    of_value c.args.value.now c.in-Ok.text
+    of_value (λ n. error_report (error_in c.args.state.now.side.realm n)) c.args.value.now c.in-Ok.text
     (c.in-Ok.ensures.ok ∙ told 16777216 c.len.result c.min-told.result c.deref.result.now c.min-told.ensures (c.len.ensures ∙ sym c.deref.ensures.len) ∙ ap (take 16777216) (c.deref.ensures.value ∙ c.in_ok-units.ensures))
