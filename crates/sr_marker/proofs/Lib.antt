@@ -1,0 +1,4 @@
+pub mod Firsts
+pub mod Lists
+pub mod Openers
+pub mod ReadTokens
