@@ -10,7 +10,8 @@ use Rattle.sr_ast.specs.declared.reading.Reading.TheVariants as reading
 use Rattle.sr_ast.specs.declared.reading.SourceCode.{SourceCode}
 use Rattle.sr_ast.specs.declared.refused.Refused.{Refused}
 use Rattle.sr_ast.specs.Script.{Script}
-use Rattle.sr_parse.specs.Readings.{IsScript}
+use Rattle.sr_text.specs.declared.goal.Goal.TheVariants as goal
+use Rattle.sr_unit.specs.Refusals.{Reads}
 use Rattle.sr_script.specs.Names.{script_names}
 use Rattle.sr_script.specs.Form.{script_fits}
 use Rattle.sr_script.specs.Refusals.{IsRefused}
@@ -35,7 +36,7 @@ pub record HasBody (tokens : List Token) (statements : List Tree) (x : Script) :
 -- A text is this script, and it is built: it is read as the statements, does not begin with a string literal, and is of the form.
 -- The script has the names that the statements declare.
 pub record IsBuilt (text : List ℕ) (x : Script) : Type 0 where
-  pub reads : IsScript text (Ok x.body)
+  pub reads : Reads goal.Script text (Ok x.body)
   pub no_directive : (ts : List Token) → Tokens text ts → begins_with_string ts ≡ false
   pub names : x.names ≡ script_names x.body
   pub form : IsTrue (script_fits x.names x.body)

@@ -1,11 +1,15 @@
 ghost use Rattle.sr_script.specs.Built.{OneReading};
 
-use sr_parse::laws;
+use sr_lex::laws::{one_failure, one_front, one_reading as one_list, tokens_or_failure};
+use sr_syntax::laws::one_sorting;
 
 /// A text has one reading at most.
-#[tactic(auto, using(crate::proofs::Built::one_built))]
 pub fn one_reading()
     ensures { OneReading }
 {
-    laws::one_script();
+    one_list();
+    one_failure();
+    one_front();
+    tokens_or_failure();
+    one_sorting();
 }

@@ -1,5 +1,4 @@
-ghost use Rattle.std.specs.Prelude.{◌≡◌, All, IfOk, IfSome, IfNone};
-ghost use Rattle.sr_lex.specs.Tokens.{Tokens, IsTokenOf};
+ghost use Rattle.std.specs.Prelude.{◌≡◌, IfOk, IfSome, IfNone};
 ghost use Rattle.sr_ast.specs.declared.reading.Reading.{Reading};
 ghost use Rattle.sr_ast.specs.Script.{Script};
 ghost use Rattle.sr_script.specs.Names.{script_names};
@@ -10,11 +9,11 @@ use crate::declared::Names;
 use crate::form::script_fits;
 use crate::names::put_all;
 use sqlite_items::Items;
-use sr_ast::{Reading, Refused, ScriptCode, SourceCode, Tree};
-use sr_lex::{LexRefusal, Token, TokenKind, lex};
-use sr_parse::{Refusal, parse_statements};
+use sr_ast::{Reading, ScriptCode, SourceCode, Tree};
+use sr_lex::{Token, TokenKind, lex_to_failure};
 use sr_shared::Shared;
-use sr_text::Str;
+use sr_text::{Goal, Str};
+use sr_unit::{Refusal, read_tokens};
 use std::alloc::{AllocError, Global};
 
 /// Whether the first token is a string literal.
@@ -57,33 +56,19 @@ fn of_statements(
     }
 }
 
-/// What the text of these tokens is; none where it is a script that is not built.
-fn of_tokens(alloc: Global, text: &Str, tokens: &[Token]) -> Result<Option<Reading>, AllocError>
-    requires tokens { Tokens text.now tokens.now }
-    requires each { All (IsTokenOf text.now) tokens.now }
-    ensures reading { IfOk result (λ read. IfSome read (IsReading text.now)) }
-    ensures no_reading { IfOk result (λ read. IfNone read ((r : Reading) → ¬ (IsReading text.now r))) }
-{
-    match parse_statements(alloc, text, tokens) {
-        Ok(body) => match of_statements(alloc, tokens, body)? {
-            Some(script) => Ok(Some(Reading::Script(script))),
-            None => Ok(None),
-        },
-        Err(Refusal::Syntax(at)) => Ok(Some(Reading::Refused(Refused::Syntax(at)))),
-        Err(Refusal::TooDeep) => Ok(Some(Reading::Refused(Refused::TooDeep))),
-        Err(Refusal::Memory) => Err(AllocError),
-    }
-}
-
 /// What the text is (ECMA-262 16.1.6); none where it is a script that is not built.
 fn read_text(alloc: Global, text: &Str) -> Result<Option<Reading>, AllocError>
     ensures reading { IfOk result (λ read. IfSome read (IsReading text.now)) }
     ensures no_reading { IfOk result (λ read. IfNone read ((r : Reading) → ¬ (IsReading text.now r))) }
 {
-    match lex(alloc, text) {
-        Ok(tokens) => of_tokens(alloc, text, &tokens),
-        Err(LexRefusal::Syntax(at)) => Ok(Some(Reading::Refused(Refused::Syntax(at)))),
-        Err(LexRefusal::Memory) => Err(AllocError),
+    let lexed = lex_to_failure(alloc, text)?;
+    match read_tokens(alloc, Goal::Script, text, &lexed) {
+        Ok(body) => match of_statements(alloc, &lexed.tokens, body)? {
+            Some(script) => Ok(Some(Reading::Script(script))),
+            None => Ok(None),
+        },
+        Err(Refusal::Refused(why)) => Ok(Some(Reading::Refused(why))),
+        Err(Refusal::Memory) => Err(AllocError),
     }
 }
 

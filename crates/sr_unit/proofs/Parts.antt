@@ -1,9 +1,9 @@
 -- A tree is numbered by its parts.
-use Rattle.std.proofs.Common.{◌≡◌, ℕ, suc, refl, ap, ◌∙◌, None, Some}
+use Rattle.std.proofs.Common.{◌≡◌, suc, refl, ap, ◌∙◌, None, Some}
 use Rattle.std.proofs.Math.Path.{fun_ext}
-use Rattle.sr_ast.specs.declared.tree.Tree.{Tree, roll-Tree, fold-Tree, fold_out-Tree}
-use Rattle.sr_ast.specs.declared.tree.Case.{Case, out-Case, fold-Case, fold_out-Case}
-use Rattle.sr_ast.specs.declared.tree.Declaration.{Declaration, out-Declaration, fold-Declaration, fold_out-Declaration}
+use Rattle.sr_ast.specs.declared.tree.Tree.{Tree, roll-Tree, fold_out-Tree}
+use Rattle.sr_ast.specs.declared.tree.Case.{Case, fold-Case, fold_out-Case}
+use Rattle.sr_ast.specs.declared.tree.Declaration.{Declaration, fold-Declaration, fold_out-Declaration}
 use Rattle.sr_ast.specs.declared.tree.Element.{Element, Element-F, out-Element, map-Element, fold-Element, fold_out-Element}
 use Rattle.sr_ast.specs.declared.tree.Element.TheOpen as layer
 use Rattle.sr_ast.specs.declared.tree.Node.{Node, out-Node, map-Node, fold-Node, fold_out-Node}

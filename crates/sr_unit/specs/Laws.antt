@@ -1,6 +1,6 @@
 -- What holds of how texts are read.
 use Rattle.std.specs.Prelude.{◌≡◌, ℕ, List, Result}
-use Rattle.sr_syntax.specs.declared.refusal.Refusal.{Refusal}
+use Rattle.sr_unit.specs.declared.refusal.Refusal.{Refusal}
 use Rattle.sr_text.specs.declared.goal.Goal.{Goal}
 use Rattle.sr_unit.specs.declared.unit.Unit.{Unit}
 use Rattle.sr_unit.specs.Units.{IsUnit}

@@ -1,5 +1,4 @@
 -- The numbers of a tree, by those of its parts.
-use Rattle.std.specs.Prelude.{ℕ, suc}
 use Rattle.sr_ast.specs.declared.tree.Tree.{Tree}
 use Rattle.sr_ast.specs.declared.tree.Case.{Case, out-Case, map-Case}
 use Rattle.sr_ast.specs.declared.tree.Declaration.{Declaration, out-Declaration, map-Declaration}

@@ -1,14 +1,17 @@
 ghost use Rattle.sr_unit.specs.Laws.{OneUnit, EachUnit};
 
-use sr_parse::laws;
+use sr_lex::laws::{each_text_is_read, one_failure, one_front, one_reading, tokens_or_failure};
+use sr_syntax::laws::one_sorting;
 
 /// A text is read as one unit at most, or refused for one reason.
-#[tactic(auto, using(crate::proofs::Outcomes::one_unit))]
 pub fn one_unit()
     ensures { OneUnit }
 {
-    laws::one_script();
-    laws::one_module();
+    one_reading();
+    one_failure();
+    one_front();
+    tokens_or_failure();
+    one_sorting();
 }
 
 /// Each text is read as a unit or refused.
@@ -16,6 +19,5 @@ pub fn one_unit()
 pub fn each_unit()
     ensures { EachUnit }
 {
-    laws::each_script();
-    laws::each_module();
+    each_text_is_read();
 }

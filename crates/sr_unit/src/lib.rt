@@ -3,17 +3,22 @@
 
 /// Copies of what stands in trees and is no tree.
 mod copies;
+/// The items of a text.
+mod items;
 /// The laws of the definitions.
 pub mod laws;
 /// The numbers of trees.
 mod numbers;
 /// The unit of a text.
 mod reading;
+/// Why a text is no unit.
+mod refusal;
 /// What a unit is.
 pub mod unit;
 
+pub use items::read_tokens;
 pub use reading::{parse_module, parse_script};
-pub use sr_syntax::refusal::Refusal;
+pub use refusal::Refusal;
 pub use sr_text::Goal;
 pub use unit::Unit;
 

@@ -6,8 +6,12 @@ use std::alloc::{AllocError, Global};
 use std::fmt::Write;
 use std::test::Fail;
 
+/// Scripts and modules with early errors.
+mod errors;
 /// Each first part of a program.
 mod prefixes;
+/// Texts that are no scripts.
+mod refusals;
 
 /// Texts of scripts, whether they are strict, and their trees in order, each with its number and its place.
 const TEXTS: [(&str, bool, &str); 13] = [

@@ -1,0 +1,1 @@
+print({class: 1}.class)
