@@ -24,7 +24,7 @@ use Rattle.sr_machine.proofs.Grows.{Starts, rest_grows}
 use Rattle.sr_machine.specs.Language.{throw_report}
 use Rattle.sr_machine.specs.Rest.{Waiting, world_of, StandFor, Rest, ended}
 use Rattle.sr_machine.specs.Going.{line_of, Ready, IsWhy}
-use Rattle.sr_machine.specs.Running.{thrown_of, BreaksOff}
+use Rattle.sr_machine.specs.Running.{thrown_of, thrown_in, BreaksOff}
 use Rattle.sr_machine.specs.Running as running
 use Rattle.sr_machine.specs.declared.live.StopAt.{StopAt}
 use Rattle.sr_command.specs.declared.status.Status.{Status}
@@ -146,10 +146,6 @@ module _ (bound : ℕ) (name text : List ℕ) (x : Reading) where
     ended_course j side (completion.Abrupt (abrupt.Break l)) = ended_after u.printed [] (last_ending name None) refl refl
     ended_course j side (completion.Abrupt (abrupt.Continue l)) = ended_after u.printed [] (last_ending name None) refl refl
 
-    -- what is told of the throw in which the source ended, in a state
-    abbrev pub thrown : Held → Option Text
-    thrown k = (let y = k.side in thrown_of y.realm k.answer)
-
     abbrev thrown_by : Answer → Option Text
     thrown_by a = (let y = h.side in thrown_of y.realm a)
 
@@ -160,18 +156,18 @@ module _ (bound : ℕ) (name text : List ℕ) (x : Reading) where
     done_with [] answer.Empty stand ready j e = absurd ready
     done_with [] (answer.Done o) stand ready j e = (j, ap (course_of bound) e ∙ ended_course j h.side o)
 
-    done_course : h.frames ≡ [] → RunsReading bound name text x (then_ending (last_ending name (thrown h)))
+    done_course : h.frames ≡ [] → RunsReading bound name text x (then_ending (last_ending name (thrown_in h)))
     done_course none =
         let s = u.same 0 in
         let k = u.stack in
         done_with u.tasks h.answer (subst (λ (fs : List code.Frame). StandFor (read bound name text x) fs u.tasks) none k.stand) k.ready s.0 s.2
 
-    pub done : (r : Result Status WriteRefusal) (after e e' : Option (List ℕ)) (k : Held) → h.frames ≡ [] → after ≡ now → k ≡ h
-        → ComesTo (last_ending name (thrown k)) r (streams after e) (streams after e') → Reaches (RunsReading bound name text x) r (streams before e) (streams after e')
-    done r after e e' k none same is comes =
-        reached (then_ending (last_ending name (thrown h))) (done_course none)
-        (comes_after (lines u.printed) (last_ending name (thrown h)) r _ (streams after e) _ (rw same (lines_gained u.printed before now e u.gained))
-        (subst (λ (k : Held). ComesTo (last_ending name (thrown k)) r (streams after e) (streams after e')) is comes))
+    pub done : (r : Result Status WriteRefusal) (after e e' : Option (List ℕ)) (told : Option Text) → h.frames ≡ [] → after ≡ now → thrown_in h ≡ told
+        → ComesTo (last_ending name told) r (streams after e) (streams after e') → Reaches (RunsReading bound name text x) r (streams before e) (streams after e')
+    done r after e e' told none same is comes =
+        reached (then_ending (last_ending name (thrown_in h))) (done_course none)
+        (comes_after (lines u.printed) (last_ending name (thrown_in h)) r _ (streams after e) _ (rw same (lines_gained u.printed before now e u.gained))
+        (subst (λ (o : Option Text). ComesTo (last_ending name o) r (streams after e) (streams after e')) (sym is) comes))
 
     pub stopped_by : (r : Result Status WriteRefusal) (after e e' : Option (List ℕ)) (new : Held) (s : StopAt) → running.Stopped (read bound name text x) s h new → after ≡ now
         → ComesTo (stop_ending bound s) r (streams after e) (streams after e') → Reaches (RunsReading bound name text x) r (streams before e) (streams after e')

@@ -5,7 +5,7 @@ ghost use Rattle.sr_outside.specs.declared.loader.Loaded.{Loaded};
 ghost use Rattle.sr_outside.specs.declared.loader.Loaded.TheVariants.{Text};
 ghost use Rattle.sr_ast.specs.declared.reading.Reading.{Reading};
 ghost use Rattle.sr_machine.specs.Language.{source_of};
-ghost use Rattle.sr_machine.specs.Running.{given, thrown_of};
+ghost use Rattle.sr_machine.specs.Running.{given};
 ghost use Rattle.sr_command.specs.Writes.{streams};
 ghost use Rattle.sr_command.specs.Courses as courses;
 ghost use Rattle.sr_command.specs.Courses.{line_ending};
@@ -173,18 +173,18 @@ fn uncaught_line(alloc: Global, name: &str, text: &Str) -> Result<Vec<u8>, Alloc
     Ok(line)
 }
 
-/// Ends a run in which nothing is left to do.
+/// Ends a run in which nothing is left to do, by what is told of the throw in which the source ended.
 fn end_of_run<E: Sink>(
     alloc: Global,
     name: &str,
-    live: &Live,
+    thrown: Option<Str>,
     err: &mut E,
 ) -> Result<Status, WriteRefusal>
-    ensures comes { (out : Option (List ℕ)) → let h = live.now.held in let x = h.side in ComesTo (last_ending name.now (thrown_of x.realm h.answer)) result (streams out (E.written err.old)) (streams out (E.written err.new)) }
+    ensures comes { (out : Option (List ℕ)) → ComesTo (last_ending name.now thrown) result (streams out (E.written err.old)) (streams out (E.written err.new)) }
     ensures cause { IsErrOf result WriteRefusal.Failed → Rose (E.faults err.old) (E.faults err.new) }
     ensures faults { E.faults err.old ≤ E.faults err.new }
 {
-    match live.thrown()? {
+    match thrown {
         None => Ok(Status::Ran),
         Some(text) => {
             let line = uncaught_line(alloc, name, &text)?;
@@ -211,7 +211,8 @@ fn run_to_end<O: Sink, E: Sink>(
     'steps: loop {
         match live.advance(out) {
             Advance::Going => continue 'steps,
-            Advance::Done => return end_of_run(alloc, name, live, err),
+            Advance::Thrown(text) => return end_of_run(alloc, name, Some(text), err),
+            Advance::Done => return end_of_run(alloc, name, None, err),
             Advance::Stop(stop) => return end_by_stop(alloc, bound, stop, err),
             Advance::Write => return Err(WriteRefusal::Failed),
             Advance::Memory => return Err(WriteRefusal::Memory),

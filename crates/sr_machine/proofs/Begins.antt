@@ -1,5 +1,5 @@
 -- The run of a source, from where the loop begins to where nothing is left to do.
-use Rattle.std.proofs.Common.{◌≡◌, refl, sym, ap, subst, ℕ, suc, List, [], ◌∷◌, ◌++◌, Option, None, Some, arith}
+use Rattle.std.proofs.Common.{◌≡◌, refl, sym, ap, subst, ℕ, suc, List, [], ◌∷◌, ◌++◌, None, arith}
 use Rattle.sr_ast.specs.declared.reading.Reading.{Reading}
 use Rattle.sr_ast.specs.declared.reading.SourceCode.{SourceCode}
 use Rattle.sr_stmt.specs.Rows.{source}
@@ -22,7 +22,7 @@ use Rattle.sr_state.specs.Ends.{completion_of}
 use Rattle.sr_state.specs.Held.{Held, Side}
 use Rattle.sr_machine.specs.Language.{source_of, language}
 use Rattle.sr_machine.specs.Rest.{Waiting, place, world_of, StandFor, Rest, ended}
-use Rattle.sr_machine.specs.Going.{IsPayment, Ready, IsStack}
+use Rattle.sr_machine.specs.Going.{Ready, IsStack}
 use Rattle.sr_machine.specs.Running.{given}
 
 module _ (read : Text → Reading) (bound : ℕ) (name : Name) where

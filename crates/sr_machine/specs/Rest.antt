@@ -1,5 +1,5 @@
 -- What a stack of frames stands for.
-use Rattle.std.specs.Prelude.{◌≡◌, ℕ, suc, ◌≤◌, List, [], ◌∷◌, ◌++◌, Option}
+use Rattle.std.specs.Prelude.{◌≡◌, ℕ, suc, ◌≤◌, List, [], ◌∷◌, ◌++◌}
 use Rattle.sr_ast.specs.declared.reading.Reading.{Reading}
 use Rattle.sr_model.specs.Values.{Text, root, same}
 use Rattle.sr_model.specs.Events.{Event}

@@ -51,6 +51,7 @@ answer_of ended.Memory = advance.Memory
 abbrev pub Remembers : Advance → Option Ended → Type 0
 Remembers advance.Going over = Unit {0}
 Remembers advance.Done over = Unit {0}
+Remembers (advance.Thrown text) over = Unit {0}
 Remembers (advance.Stop s) over = over ≡ Some (ended.Stop s)
 Remembers advance.Write over = over ≡ Some ended.Write
 Remembers advance.Memory over = over ≡ Some ended.Memory
@@ -78,3 +79,11 @@ thrown_of r (answer.Done (completion.Abrupt (abrupt.Throw v))) = Some (throw_rep
 thrown_of r (answer.Done (completion.Abrupt (abrupt.Return v))) = None
 thrown_of r (answer.Done (completion.Abrupt (abrupt.Break l))) = None
 thrown_of r (answer.Done (completion.Abrupt (abrupt.Continue l))) = None
+
+-- the report of the throw in which a run ended
+abbrev pub thrown_in : Held → Option Text
+thrown_in h = (let x = h.side in thrown_of x.realm h.answer)
+
+-- after that was told
+abbrev pub told : Running → Running
+told r = (let h = r.held in record r { held = record h { answer = answer.Empty } })

@@ -7,3 +7,6 @@ mod live;
 mod reports;
 
 pub use live::{Advance, Live, StopAt};
+
+#[cfg(test)]
+mod tests;

@@ -1,4 +1,4 @@
-ghost use Rattle.std.specs.Prelude.{◌≡◌, ◌≤◌, ◌<◌, List, ℕ, Some, None, [], ◌∷◌, OnOk, IfOk, IfSome, IsErrOf, Option};
+ghost use Rattle.std.specs.Prelude.{◌≡◌, ◌≤◌, ◌<◌, ℕ, Some, None, [], OnOk, IfOk, IfSome, IsErrOf, Option};
 ghost use Rattle.std.specs.Io.KnownBytes.{Appends};
 ghost use Rattle.sr_ast.specs.declared.reading.Reading.{Reading};
 ghost use Rattle.sr_ast.specs.declared.tree.Node.{out-Node};
@@ -9,7 +9,7 @@ ghost use Rattle.sr_machine.specs.Going.{line_of, left_of, GoesOn};
 ghost use Rattle.sr_machine.specs.Language as language;
 ghost use Rattle.sr_machine.specs.Rules as machine;
 ghost use Rattle.sr_machine.specs.Rules.{printed, FrameSteps};
-ghost use Rattle.sr_machine.specs.Running.{opened, given, answer_of, thrown_of, Remembers, Stopped, BreaksOff};
+ghost use Rattle.sr_machine.specs.Running.{opened, given, answer_of, thrown_in, told, Remembers, Stopped, BreaksOff};
 
 use crate::reports::report;
 use sqlite_items::Items;
@@ -32,10 +32,12 @@ pub struct StopAt {
 }
 
 /// What a step of a run came to.
-#[derive(Clone, Copy, Debug, PartialEq, Eq)]
+#[derive(Debug, Drop)]
 pub enum Advance {
     /// More is left to do.
     Going,
+    /// The source has ended in a throw, of which this is told. It comes once.
+    Thrown(Str),
     /// Nothing is left to do.
     Done,
     /// The run stopped, in this step or an earlier one.
@@ -123,9 +125,9 @@ impl Live {
         })
     }
 
-    /// The report of the throw in which the source ended, once nothing is left to do; none where it ended normally.
-    pub fn thrown(&self) -> Result<Option<Str>, AllocError>
-        ensures { IfOk result (λ text. text ≡ (let h = self.now.held in let x = h.side in thrown_of x.realm h.answer)) }
+    /// The report of the throw in which the source ended; none where it ended normally, or where that was told.
+    fn thrown(&self) -> Result<Option<Str>, AllocError>
+        ensures { IfOk result (λ text. text ≡ thrown_in self.now.held) }
     {
         match self.state.answer() {
             Answer::Done(Completion::Abrupt(Abrupt::Throw(value))) => {
@@ -145,7 +147,10 @@ impl Live {
         ensures going { result ≡ Advance.Going → (read : Text → Reading) → GoesOn read self.old.held self.new.held (O.written out.old) (O.written out.new) }
         ensures on { result ≡ Advance.Going → self.new.over ≡ None }
         ensures over { Remembers result self.new.over }
-        ensures done { result ≡ Advance.Done → (self.old.held.frames ≡ []) × (self.new ≡ self.old) }
+        ensures thrown { (text : Text) → result ≡ Advance.Thrown text → (self.old.held.frames ≡ []) × (thrown_in self.old.held ≡ Some text) × (self.new ≡ told self.old) }
+        ensures thrown_falls { (text : Text) → result ≡ Advance.Thrown text → left_of self.new.held < left_of self.old.held }
+        ensures thrown_unwritten { (text : Text) → result ≡ Advance.Thrown text → O.written out.new ≡ O.written out.old }
+        ensures done { result ≡ Advance.Done → (self.old.held.frames ≡ []) × (thrown_in self.old.held ≡ None) × (self.new ≡ self.old) }
         ensures done_unwritten { result ≡ Advance.Done → O.written out.new ≡ O.written out.old }
         ensures stop { self.old.over ≡ None → (s : _) → result ≡ Advance.Stop s → (read : Text → Reading) → Stopped read s self.old.held self.new.held }
         ensures stop_unwritten { (s : _) → result ≡ Advance.Stop s → O.written out.new ≡ O.written out.old }
@@ -159,7 +164,7 @@ impl Live {
             return answer_to(end);
         }
         let Some(mut frame) = self.state.pop() else {
-            return Advance::Done;
+            return self.finish();
         };
         match step(self.alloc, &mut self.state, &mut frame) {
             Err(_) => self.end_by(Ended::Memory),
@@ -180,10 +185,28 @@ impl Live {
         }
     }
 
+    /// Nothing is left to do: where the source has ended in a throw, this is told once.
+    fn finish(&mut self) -> Advance
+        ensures thrown { (text : Text) → result ≡ Advance.Thrown text → (thrown_in self.old.held ≡ Some text) × (self.new ≡ told self.old) }
+        ensures done { result ≡ Advance.Done → (thrown_in self.old.held ≡ None) × (self.new ≡ self.old) }
+        ensures falls { (text : Text) → result ≡ Advance.Thrown text → left_of self.new.held < left_of self.old.held }
+        ensures others { (result ≡ Advance.Going → ⊥) × (result ≡ Advance.Write → ⊥) × ((s : _) → result ≡ Advance.Stop s → ⊥) }
+        ensures over { Remembers result self.new.over }
+    {
+        match self.thrown() {
+            Err(_) => self.end_by(Ended::Memory),
+            Ok(None) => Advance::Done,
+            Ok(Some(text)) => {
+                self.state.clear_answer();
+                Advance::Thrown(text)
+            }
+        }
+    }
+
     /// Prints a line of the frame on top, and gives that an empty end.
     fn print<O: Sink>(&mut self, text: Str, out: &mut O) -> Advance
         ensures going { result ≡ Advance.Going → (self.new ≡ (let r = self.old in record r { held = printed text r.held })) × Appends (O.written out.old) (O.written out.new) (line_of text) }
-        ensures others { (result ≡ Advance.Done → ⊥) × ((s : _) → result ≡ Advance.Stop s → ⊥) }
+        ensures others { (result ≡ Advance.Done → ⊥) × ((text : Text) → result ≡ Advance.Thrown text → ⊥) × ((s : _) → result ≡ Advance.Stop s → ⊥) }
         ensures write { result ≡ Advance.Write → AppendsPart (O.written out.old) (O.written out.new) (line_of text) × Rose (O.faults out.old) (O.faults out.new) }
         ensures memory { result ≡ Advance.Memory → O.written out.new ≡ O.written out.old }
         ensures over { Remembers result self.new.over }

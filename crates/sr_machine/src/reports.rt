@@ -1,4 +1,4 @@
-ghost use Rattle.std.specs.Prelude.{◌≡◌, ◌++◌, suc, IfOk, codes, take};
+ghost use Rattle.std.specs.Prelude.{◌≡◌, ◌++◌, suc, IfOk, codes};
 ghost use Rattle.sr_conv.specs.Plain.{value_of, symbol_of};
 ghost use Rattle.sr_conv.specs.Conversions.{number_text};
 ghost use Rattle.sr_conv.specs.Reports as spec;

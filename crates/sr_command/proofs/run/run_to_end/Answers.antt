@@ -1,4 +1,4 @@
-use Rattle.std.proofs.Common.{refl, ap, arith}
+use Rattle.std.proofs.Common.{Some, None, refl, arith}
 use Rattle.sr_machine.specs.Running.{Running}
 use Rattle.sr_command.proofs.Running.{start_under, goes_under, falls_under}
 use Rattle.sr_command.proofs.RunEnds.{starved, broken, done, stopped_by}
@@ -27,13 +27,21 @@ steps-preserved g c =
 pub steps-smaller : goal.steps-smaller
 steps-smaller g c = falls_under _ _ c.requires.0 c.requires.1 _ _ _ (c.steps.invariant.so_far c.requires.0 c.requires.1 c.requires.2) _ _ (c.in-Going.ensures.going refl _)
 
+pub returns-in-Thrown-clause-reaches : goal.returns-in-Thrown-clause-reaches
+returns-in-Thrown-clause-reaches g c =
+    let so = c.steps.invariant in
+    let end = c.in-Thrown.ensures.thrown c.in-Thrown.text refl in
+    λ text x is.
+    done _ _ text x _ _ _ (so.so_far text x is) c.end_of_run.result _ (g.E.Sink.written c.args.err.now) _ (Some c.in-Thrown.text) end.0 (c.in-Thrown.ensures.thrown_unwritten c.in-Thrown.text refl) end.1
+    (rw so.err_written at (c.end_of_run.ensures.comes (g.O.Sink.written c.advance.new.out)))
+
 pub returns-in-Done-clause-reaches : goal.returns-in-Done-clause-reaches
 returns-in-Done-clause-reaches g c =
     let so = c.steps.invariant in
     let end = c.in-Done.ensures.done refl in
     λ text x is.
-    done _ _ text x _ _ _ (so.so_far text x is) c.end_of_run.result _ (g.E.Sink.written c.args.err.now) _ _ end.0 (c.in-Done.ensures.done_unwritten refl) (ap (λ (r : Running). r.held) end.1)
-    (rw so.err_written at (c.end_of_run.ensures.comes (g.O.Sink.written c.advance.new.out)))
+    done _ _ text x _ _ _ (so.so_far text x is) c.end_of_run-in-Done.result _ (g.E.Sink.written c.args.err.now) _ None end.0 (c.in-Done.ensures.done_unwritten refl) end.1
+    (rw so.err_written at (c.end_of_run-in-Done.ensures.comes (g.O.Sink.written c.advance.new.out)))
 
 pub returns-in-Stop-clause-reaches : goal.returns-in-Stop-clause-reaches
 returns-in-Stop-clause-reaches g c =
