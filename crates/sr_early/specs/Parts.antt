@@ -118,6 +118,9 @@ function_at distinct called ps ts c =
 abbrev pub method_at : Parameters → List Tree → Context → List ℕ
 method_at ps ts c = function_at true None ps ts c
 
+abbrev pub arrow_at : Parameters → Tree → Context → List ℕ
+arrow_at ps t c = head_faults c.strict true None ps ++ faults t (around_body c.strict)
+
 abbrev pub block_at : List Tree → Context → List ℕ
 block_at ts c = all_faults ts c ++ scope_faults (lexical_names ts) (all_vars ts)
 
@@ -166,7 +169,7 @@ faults_at (layer.Getter called ts) at c = method_at no_parameters ts c
 faults_at (layer.Setter called p ts) at c = method_at (one_parameter p) ts c
 faults_at (layer.Function called ps ts) at c = function_at false called ps ts c
 faults_at (layer.Arrow ps ts) at c = method_at ps ts c
-faults_at (layer.ExpressionArrow ps t) at c = head_faults c.strict true None ps ++ faults t (around_body c.strict)
+faults_at (layer.ExpressionArrow ps t) at c = arrow_at ps t c
 faults_at (layer.Expression t) at c = faults t c
 faults_at (layer.Directive t) at c = faults t c
 faults_at (layer.Var ds) at c = declarations_faults ds c

@@ -1,7 +1,7 @@
 ghost use Rattle.std.specs.Prelude.{◌≡◌, IfOk};
 ghost use Rattle.sr_early.specs.Early as spec;
 
-use crate::faults::{module, script};
+use crate::items::{module, script};
 use crate::places::least;
 use sqlite_items::Items;
 use sr_ast::Tree;
