@@ -152,6 +152,7 @@ impl Live {
         ensures thrown_unwritten { (text : Text) → result ≡ Advance.Thrown text → O.written out.new ≡ O.written out.old }
         ensures done { result ≡ Advance.Done → (self.old.held.frames ≡ []) × (thrown_in self.old.held ≡ None) × (self.new ≡ self.old) }
         ensures done_unwritten { result ≡ Advance.Done → O.written out.new ≡ O.written out.old }
+        ensures rest { self.old.over ≡ None → self.old.held.frames ≡ [] → (result ≡ Advance.Going → ⊥) × (result ≡ Advance.Write → ⊥) × ((s : _) → result ≡ Advance.Stop s → ⊥) }
         ensures stop { self.old.over ≡ None → (s : _) → result ≡ Advance.Stop s → (read : Text → Reading) → Stopped read s self.old.held self.new.held }
         ensures stop_unwritten { (s : _) → result ≡ Advance.Stop s → O.written out.new ≡ O.written out.old }
         ensures write { result ≡ Advance.Write → self.old.over ≡ None → (read : Text → Reading) → BreaksOff read self.old.held (O.written out.old) (O.written out.new) }
