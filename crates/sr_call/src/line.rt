@@ -1,4 +1,4 @@
-ghost use Rattle.std.specs.Prelude.{◌≡◌, ◌<◌, ◌≤◌, ◌++◌, length, IfOk, OnOk, MatchOption};
+ghost use Rattle.std.specs.Prelude.{◌≡◌, ◌<◌, ◌≤◌, length, IfOk, OnOk, MatchOption};
 ghost use Rattle.sr_conv.specs.Conversions as conversion;
 ghost use Rattle.sr_conv.specs.Plain.{value_of};
 ghost use Rattle.sr_state.specs.Step.{plain};
@@ -6,7 +6,6 @@ ghost use Rattle.sr_call.specs.Rows.{joined};
 ghost use Rattle.sr_call.specs.At.{text_or_none, texts_of};
 ghost use Rattle.sr_call.specs.Lines.{extended};
 
-use sqlite_items::Items;
 use sr_conv::{Computed, to_text};
 use sr_text::Str;
 use sr_value::Value;

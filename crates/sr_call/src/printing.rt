@@ -9,7 +9,6 @@ ghost use Rattle.sr_call.specs.At.{print_at, texts_of};
 ghost use Rattle.sr_call.specs.Steps.{GoesOn, was_given};
 
 use crate::line::line;
-use sqlite_items::Items;
 use sr_conv::{Computed, to_text};
 use sr_state::{Abrupt, Answer, Charge, Completion, Frame, Next, State, StopName};
 use sr_text::Str;

@@ -16,7 +16,7 @@ use Rattle.sr_machine.proofs.Begins as machine
 use Rattle.sr_machine.specs.Language.{source_of}
 use Rattle.sr_machine.specs.Rest.{Waiting, Rest}
 use Rattle.sr_machine.specs.Going.{line_of, printed_bytes, IsStack, GoesOn, left_of}
-use Rattle.sr_machine.specs.Running.{source_frame, BreaksOff}
+use Rattle.sr_machine.specs.Running.{source_frame}
 use Rattle.sr_machine.specs.Running as running
 use Rattle.sr_command.specs.declared.status.Status.{Status}
 use Rattle.sr_command.specs.Writes.{Write, out_bytes, err_bytes, Gains, IsCut, later, Streams, streams}

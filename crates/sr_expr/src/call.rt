@@ -1,4 +1,4 @@
-ghost use Rattle.std.specs.Prelude.{◌≡◌, ℕ, suc, ◌∷◌, [], map, IfOk, OnOk};
+ghost use Rattle.std.specs.Prelude.{◌≡◌, ℕ, suc, ◌∷◌, map, IfOk, OnOk};
 ghost use Rattle.sr_ast.specs.declared.tree.Tree as tree;
 ghost use Rattle.sr_state.specs.declared.frame.Activity.TheVariants as activity;
 ghost use Rattle.sr_state.specs.declared.frame.BuiltIn.TheVariants as built_in;

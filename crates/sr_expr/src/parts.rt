@@ -7,10 +7,9 @@ ghost use Rattle.sr_expr.specs.At.{first_kept};
 ghost use Rattle.sr_expr.specs.Ends.{Begun, without_answer};
 ghost use Rattle.sr_expr.specs.Rows.{name_in};
 
-use sqlite_items::Items;
 use sr_ast::{Code, Node, Tree};
 use sr_shared::Shared;
-use sr_state::{Abrupt, Answer, Charge, Completion, Frame, Next, State};
+use sr_state::{Abrupt, Charge, Completion, Frame, Next, State};
 use sr_text::Str;
 use sr_value::Value;
 use std::alloc::{AllocError, Global};

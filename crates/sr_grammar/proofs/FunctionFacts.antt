@@ -13,7 +13,7 @@ use Rattle.sr_syntax.specs.Operators.{none}
 use Rattle.sr_syntax.specs.Bodies.{body, block, parameter_list, declared_function, function_declaration}
 use Rattle.sr_syntax.specs.Grammar.{tree}
 use Rattle.sr_grammar.specs.Names.{binding_of}
-use Rattle.sr_grammar.specs.Derivations.{IsItem, Items, Body, Block, Function, whole}
+use Rattle.sr_grammar.specs.Derivations.{Body, Block, Function, whole}
 use Rattle.sr_grammar.specs.Derivations as g
 use Rattle.sr_grammar.specs.Reading.{end_after}
 use Rattle.sr_grammar.proofs.Steps.{Fact, Any, Parses, Both, both, Either, first, second, Never, Expected, expected, Here, here, Completed, completed, map, then_any, expecting, completing, ending}

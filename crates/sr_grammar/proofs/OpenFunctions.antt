@@ -11,7 +11,7 @@ use Rattle.sr_syntax.specs.declared.grown.Grown.{Grown}
 use Rattle.sr_syntax.specs.declared.grown.Grove.{Grove}
 use Rattle.sr_syntax.specs.declared.grown.OpenFunction.{OpenFunction}
 use Rattle.sr_syntax.specs.declared.grown.Goal.TheVariants as goal
-use Rattle.sr_syntax.specs.Input.{Input, Outcome, Parser, ◌>>=◌, ◌>>◌, and_then, pure, peek, take_token, expect, next, sort, place, left, max_depth, complete}
+use Rattle.sr_syntax.specs.Input.{Input, Parser, ◌>>=◌, ◌>>◌, and_then, peek, take_token, next, sort, place, left, max_depth}
 use Rattle.sr_syntax.specs.Input as input
 use Rattle.sr_syntax.specs.Operators.{none, with}
 use Rattle.sr_syntax.specs.Declarations.{declared_by}

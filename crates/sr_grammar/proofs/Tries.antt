@@ -10,7 +10,7 @@ use Rattle.sr_syntax.specs.Operators.{tallest, none}
 use Rattle.sr_syntax.specs.Statements.{catch_parameter, inner_block, finally_, catch_end, catch_, try_}
 use Rattle.sr_syntax.specs.Grammar.{tree}
 use Rattle.sr_grammar.specs.Names.{CatchParameter, no_parameter, one_parameter}
-use Rattle.sr_grammar.specs.Derivations.{Block, Catch, Finally, States, whole}
+use Rattle.sr_grammar.specs.Derivations.{Block, Catch, States, whole}
 use Rattle.sr_grammar.specs.Derivations as g
 use Rattle.sr_grammar.specs.Reading.{end_after}
 use Rattle.sr_grammar.proofs.Steps.{Fact, Fault, Any, Parses, Both, both, Either, first, second, Never, Pure, Looked, looked, Eaten, ate, absent, Expected, expected, Here, here, Chosen, yes, no, ChosenFault, yes_fault, no_fault, Completed, completed, completing, map, given, then_any, look, place_shallow, eaten, expecting, purely, choose_any, not_both, end_append}

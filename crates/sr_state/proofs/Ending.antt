@@ -1,5 +1,5 @@
 -- Steps of a frame whose script is known.
-use Rattle.std.proofs.Common.{◌≡◌, refl, sym, ap, subst, ℕ, List, Option, None}
+use Rattle.std.proofs.Common.{◌≡◌, sym, ap, subst, ℕ, List}
 use Rattle.sr_model.specs.Values.{Value}
 use Rattle.sr_model.specs.Outcomes as model
 use Rattle.sr_model.specs.Scripts.{give}

@@ -1,10 +1,10 @@
 -- Steps that begin with a charge, whatever the frame was given.
-use Rattle.std.proofs.Common.{◌≡◌, refl, sym, ap, subst, ◌∙◌, ℕ, zero, suc, List, [], ◌∷◌, true, false}
+use Rattle.std.proofs.Common.{◌≡◌, refl, sym, ap, subst, ◌∙◌, ℕ, suc, List, [], ◌∷◌, true, false}
 use Rattle.sr_model.specs.Values.{Value}
 use Rattle.sr_model.specs.Scripts.{charge}
 use Rattle.sr_state.specs.Work.{Steps}
 use Rattle.sr_state.specs.Held.{Held, Side, Charges, with_side, pay_in, room_in}
-use Rattle.sr_state.specs.Step.{plain, given, goes, paid, again, Follows, Stays, OnOne}
+use Rattle.sr_state.specs.Step.{plain, given, goes, paid, again, Follows, Stays}
 use Rattle.sr_state.specs.declared.frame.Frame.{Frame}
 use Rattle.sr_state.specs.declared.frame.Activity.{Activity}
 use Rattle.sr_state.specs.declared.ends.Answer.{Answer}

@@ -1,12 +1,12 @@
 -- A step stays a step where less is said of the frame that is put back.
 use Rattle.std.proofs.Common.{◌≡◌, ℕ, zero, suc, Bool, true, false, List, [], ◌∷◌}
-use Rattle.sr_model.specs.Ports.{Port, Charge, Enter, Line, Ticket, NewRealm, Load, Tell, Ask}
+use Rattle.sr_model.specs.Ports.{Charge, Enter, Line, Ticket, NewRealm, Load, Tell, Ask}
 use Rattle.sr_model.specs.Tasks.{Coming, Part, Use, Give, Halt, Turned}
 use Rattle.sr_model.specs.World.{may_enter}
 use Rattle.sr_model.specs.Globals.{Holds}
 use Rattle.sr_state.specs.Work.{Work, Steps}
 use Rattle.sr_state.specs.Held.{Held, Side, Outer, pay_in, put_in, room_in}
-use Rattle.sr_state.specs.Step.{OnOne, OnTwo, Back, IsFresh, comes, again, paid, charged, entered, opens, goes, keeping, given, Follows}
+use Rattle.sr_state.specs.Step.{OnOne, OnTwo, IsFresh, comes, again, paid, charged, entered, opens, keeping, given, Follows}
 use Rattle.sr_state.specs.declared.frame.Frame.{Frame}
 use Rattle.sr_state.specs.declared.ends.Next.{Next}
 

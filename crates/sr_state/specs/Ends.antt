@@ -1,7 +1,6 @@
 -- The ends of parts, as the definitions have them.
-use Rattle.std.specs.Prelude.{◌≡◌, ℕ, List, [], ◌∷◌, ◌++◌}
+use Rattle.std.specs.Prelude.{◌≡◌, List, [], ◌∷◌}
 use Rattle.sr_conv.specs.Plain.{value_of, option_of, number_stop_of}
-use Rattle.sr_model.specs.Values.{Text}
 use Rattle.sr_model.specs.Outcomes as model
 use Rattle.sr_model.specs.Tasks.{Item, Gave}
 use Rattle.sr_state.specs.declared.ends.Abrupt.{Abrupt}

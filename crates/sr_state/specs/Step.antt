@@ -1,10 +1,9 @@
 -- What one step of a frame does, against the script that the frame goes on with.
-use Rattle.std.specs.Prelude.{◌≡◌, ℕ, zero, suc, Bool, true, false, List, [], ◌∷◌, ◌++◌, map, Option, None}
+use Rattle.std.specs.Prelude.{◌≡◌, ℕ, zero, suc, Bool, true, false, List, [], ◌∷◌, ◌++◌, map}
 use Rattle.sr_value.specs.declared.value.Value.{Value}
-use Rattle.sr_ast.specs.declared.tree.Tree.{Tree}
 use Rattle.sr_model.specs.Values as model
 use Rattle.sr_model.specs.Ports.{Port, Charge, Enter, Line, Ticket, NewRealm, Load, Tell, Ask}
-use Rattle.sr_model.specs.Tasks.{Task, Run, Apply, Construct, BuiltIn, Convert, Operate, Read, Work, Item, Paid, Coming, Part, Use, Give, Halt, Turned, kept_items}
+use Rattle.sr_model.specs.Tasks.{Run, Apply, Construct, BuiltIn, Convert, Operate, Read, Work, Item, Paid, Coming, Part, Use, Give, Halt, Turned, kept_items}
 use Rattle.sr_model.specs.Scripts.{onward}
 use Rattle.sr_model.specs.World.{may_enter}
 use Rattle.sr_model.specs.Realm.{Realm}

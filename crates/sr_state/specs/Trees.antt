@@ -1,5 +1,5 @@
 -- Words for the rows of trees.
-use Rattle.std.specs.Prelude.{ℕ, ◌/◌, nat_le, Bool, true, false, List, [], ◌∷◌, ◌++◌, length, Option, None, Some}
+use Rattle.std.specs.Prelude.{ℕ, ◌/◌, nat_le, ◌++◌, length, Option, None, Some}
 use Rattle.sr_ast.specs.declared.tree.Tree.{Tree}
 use Rattle.sr_model.specs.Values.{Text, Value, Simple, Undefined, Str}
 use Rattle.sr_model.specs.Outcomes.{Normal, Abrupt, Throw, StringLength}
@@ -8,7 +8,7 @@ use Rattle.sr_model.specs.Scripts.{give, halt, charge, pay, part, changed}
 use Rattle.sr_model.specs.Globals.{marked, either}
 use Rattle.sr_conv.specs.Computed as outcome
 use Rattle.sr_conv.specs.Operators as operators
-use Rattle.sr_state.specs.Work.{Work, Steps}
+use Rattle.sr_state.specs.Work.{Steps}
 
 -- the value of an end; an empty one counts as undefined
 abbrev pub value_in : Option Value → Value

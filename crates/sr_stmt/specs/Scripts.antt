@@ -1,7 +1,5 @@
 -- What one step of a frame of a source does.
 use Rattle.std.specs.Prelude.{◌≡◌, ℕ, []}
-use Rattle.sr_ast.specs.Script.{Script}
-use Rattle.sr_ast.specs.declared.reading.Reading.{Reading}
 use Rattle.sr_ast.specs.declared.reading.SourceCode.{SourceCode}
 use Rattle.sr_state.specs.declared.frame.Frame.{Frame}
 use Rattle.sr_state.specs.declared.frame.Activity.{Activity}

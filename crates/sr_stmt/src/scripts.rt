@@ -1,4 +1,4 @@
-ghost use Rattle.std.specs.Prelude.{◌≡◌, ℕ, ◌<◌, ◌+◌, ◌^◌, [], ◌/◌, drop, IfOk};
+ghost use Rattle.std.specs.Prelude.{◌≡◌, ℕ, ◌<◌, ◌+◌, ◌^◌, ◌/◌, drop, IfOk};
 ghost use Rattle.sr_ast.specs.declared.reading.Reading.TheVariants as kind;
 ghost use Rattle.sr_ast.specs.declared.reading.SourceCode.{SourceCode};
 ghost use Rattle.sr_state.specs.declared.frame.Activity.TheVariants as activity;
