@@ -1,7 +1,7 @@
 """Compares the built program with a second reading of the rules, over random texts: compare.py [COUNT [SEED]]
 
     runs      scripts of variables, operators and loops, each cut at bounds of steps at random: output, status, place and steps
-    texts     texts near the grammar: the place of the first token that cannot continue, or the marker of what is left out
+    texts     texts near the grammar: the place at which no token fits or the grammar fails, or the marker of what is left out
     scripts   scripts of declarations, labels and functions: the place of the first early error
 
 COUNT (200 if left out) is how many of each are made, and SEED (1) what they are made from. What differs is printed, and the status
@@ -17,7 +17,7 @@ import tempfile
 from declarations import Scripts
 from early_errors import first_error
 from evaluation import Run
-from grammar import NoToken, judgement
+from grammar import judgement
 from programs import Programs
 from texts import Texts
 
@@ -40,7 +40,9 @@ class Folder:
 
 
 def units_of(text):
-    return len(text.encode("utf-16-le", "surrogatepass")) // 2
+    """The code units of a text, as a text of them."""
+    units = text.encode("utf-16-le", "surrogatepass")
+    return "".join(chr(low | high << 8) for low, high in zip(units[::2], units[1::2]))
 
 
 def bytes_of(line):
@@ -52,22 +54,17 @@ def compared_runs(folder, numbers):
     """A program, at its end and at two bounds before it: what was wanted and what came."""
     text, statements = Programs(numbers).program()
     whole = Run(MOST_STEPS)
-    whole.ending(units_of(text), statements)
+    whole.ending(len(units_of(text)), statements)
     for bound in (MOST_STEPS, *[numbers.randint(1, whole.used + 2) for _ in range(2)]):
         run = Run(bound)
-        status, error = run.ending(units_of(text), statements)
+        status, error = run.ending(len(units_of(text)), statements)
         wanted = status, b"".join(map(bytes_of, run.lines)), error
         yield f"--steps {bound} {text!r}", wanted, folder.answer(text, "--steps", str(bound))
 
 
 def compared_texts(folder, numbers):
     text = Texts(numbers).text()
-    if len(text) > MOST_UNITS:
-        return
-    try:
-        failed = judgement(text)
-    except NoToken:
-        return
+    failed = judgement(units_of(text)) if len(text) <= MOST_UNITS else None
     if failed:
         status, error = failed
         yield repr(text), (status, b"", error), folder.answer(text)

@@ -6,110 +6,7 @@ first one that cannot continue. A semicolon is inserted by the rule as the stand
 
 from collections import namedtuple
 
-RESERVED = set(
-    "break case catch const continue debugger default delete do else enum export extends false finally for function if import in"
-    " instanceof let new null return switch this throw true try typeof var void while class super with yield await arguments".split()
-)
-PUNCTUATORS = (
-    "{ } ( ) [ ] . ... ; , < > <= >= == != === !== + - * / % ** ++ -- << >> >>> & | ^ ! ~ && || ?? ? ?. : = += -= *= /= %= **= <<= >>="
-    " >>>= &= |= ^= &&= ||= ??= =>"
-)
-PUNCTUATORS = sorted(PUNCTUATORS.split(), key=len, reverse=True)
-
-
-class Token:
-    """A token of a kind: word, number, string, punctuator, a piece of a template (whole, head, middle, tail), or the end."""
-
-    def __init__(self, kind, text, at, is_behind_line_end):
-        self.kind, self.text, self.at, self.is_behind_line_end = kind, text, at, is_behind_line_end
-        # of a parenthesis: whether the one that closes it stands before an arrow
-        self.begins_arrow = False
-
-    def is_punctuator(self, *texts):
-        return self.kind == "punctuator" and self.text in texts
-
-    def is_word(self, *texts):
-        return self.kind == "word" and self.text in texts
-
-    def is_identifier(self):
-        return self.kind == "word" and self.text not in RESERVED
-
-
-class NoToken(Exception):
-    """No token fits at some place."""
-
-
-def is_word_part(unit):
-    return unit.isalnum() or unit in "_$"
-
-
-def run_length(text, holds):
-    return next((length for length, unit in enumerate(text) if not holds(unit)), len(text))
-
-
-def piece_of_template(rest, opened):
-    """The kind and the length of a piece. `opened` are the braces that are open, those of `${` among them."""
-    is_first = rest[0] == "`"
-    if not is_first:
-        opened.pop()
-    ends = [at for at in (rest.find("`", 1), rest.find("${", 1)) if at > 0]
-    if not ends:
-        raise NoToken
-    if rest[min(ends)] == "`":
-        return "whole" if is_first else "tail", min(ends) + 1
-    opened.append("${")
-    return "head" if is_first else "middle", min(ends) + 2
-
-
-def punctuator(rest, opened):
-    for text in PUNCTUATORS:
-        if rest.startswith(text) and not (text in (".", "?.") and rest[len(text) :][:1].isdigit()):
-            if text == "{":
-                opened.append(text)
-            if text == "}" and opened:
-                opened.pop()
-            return "punctuator", len(text)
-    raise NoToken
-
-
-def kind_and_length(rest, opened):
-    if rest[0] == "`" or (rest[0] == "}" and opened[-1:] == ["${"]):
-        return piece_of_template(rest, opened)
-    if rest[0].isdigit():
-        length = run_length(rest, str.isdigit)
-        if (rest[0] == "0" and length > 1) or (rest[length:] and (is_word_part(rest[length]) or rest[length] == ".")):
-            raise NoToken
-        return "number", length
-    if is_word_part(rest[0]):
-        return "word", run_length(rest, is_word_part)
-    if rest[0] == "'":
-        if "'" not in rest[1:]:
-            raise NoToken
-        return "string", rest.index("'", 1) + 1
-    return punctuator(rest, opened)
-
-
-def tokens_of(text):
-    """The tokens of a text of the plain forms that `texts.py` writes, and the end behind them. Raises NoToken where there are none."""
-    tokens, opened, at = [], [], 0
-    while True:
-        blank = run_length(text[at:], lambda unit: unit in " \n")
-        is_behind_line_end = "\n" in text[at : at + blank]
-        at += blank
-        if at == len(text):
-            tokens.append(Token("end", "", at, True))
-            break
-        kind, length = kind_and_length(text[at:], opened)
-        tokens.append(Token(kind, text[at : at + length], at, is_behind_line_end))
-        at += length
-    waiting = []
-    for token, behind in zip(tokens, tokens[1:]):
-        if token.is_punctuator("("):
-            waiting.append(token)
-        elif token.is_punctuator(")") and waiting:
-            waiting.pop().begins_arrow = behind.is_punctuator("=>")
-    return tokens
-
+from tokens import Token, marker_of_failure, tokens_of
 
 # ---- the table
 
@@ -366,14 +263,21 @@ def markers_of_place(token, failure):
 
 
 def judgement(text):
-    """How reading a text fails: its status and its error line for the file a.js. None where it is a script by the grammar."""
-    tokens = tokens_of(text)
-    failure = failure_of(tokens)
-    if failure is None:
-        return None
-    token = tokens[failure.number]
-    markers = [*markers_of_tokens(tokens), *markers_of_place(token, failure)]
+    """How reading a text of code units fails: its status and its error line for the file a.js. None where it is a script by the
+    grammar."""
+    tokens, place = tokens_of(text)
+    if place is not None:
+        marker = marker_of_failure(text, place)
+        markers = [(place, marker)] if marker else []
+        tokens.append(Token("failure", "", place, False))
+    else:
+        failure = failure_of(tokens)
+        if failure is None:
+            return None
+        place = tokens[failure.number].at
+        markers = [*markers_of_place(tokens[failure.number], failure)]
+    markers += markers_of_tokens(tokens)
     if markers:
         at, marker = min(markers)
         return 3, f"stop: unsupported {marker} at {at}, realm 0, source 0, at 0\n"
-    return 1, f"uncaught a.js: SyntaxError: syntax error at {token.at}\n"
+    return 1, f"uncaught a.js: SyntaxError: syntax error at {place}\n"

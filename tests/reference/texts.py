@@ -1,4 +1,4 @@
-"""Random texts near the grammar: derived from its table, and then changed by a few tokens."""
+"""Random texts near the grammar: derived from its table, and then changed by a few tokens and characters."""
 
 from grammar import RULES, TESTS
 
@@ -6,16 +6,18 @@ WORDS = {
     "IDENTIFIER": ["a", "b", "c", "x", "of", "get", "set", "as", "f"],
     "NAME": ["a", "b", "if", "new", "get", "of", "in"],
     "KEY": ["a", "b", "if", "1", "'k'", "get", "set"],
-    "NUMBER": ["1", "0", "23"],
-    "STRING": ["'s'", "''"],
-    "WHOLE": ["`t`"],
-    "HEAD": ["`a${"],
-    "MIDDLE": ["}m${"],
-    "TAIL": ["}z`"],
+    "NUMBER": ["1", "0", "23", "1_0", "0xF_f", "0B1", "0o17", "9007199254740991"],
+    "STRING": ["'s'", '""', "'\\x41\\u{1F600}\\0'", '"\\\n"', "'\u2028'", "'\U0001F600'"],
+    "WHOLE": ["`t`", "`$\n\\``"],
+    "HEAD": ["`a${", "`$${"],
+    "MIDDLE": ["}m${", "}${"],
+    "TAIL": ["}z`", "}`"],
     "END": [";", ";", ";", "\n"],
     "DO-END": [";", ""],
 }
 WORDS.update(BINDING=WORDS["IDENTIFIER"], PARAMETER=WORDS["IDENTIFIER"], ACCESSED=WORDS["KEY"])
+GAPS = [" "] * 70 + ["\n"] * 4 + ["\t", "\ufeff", "\u00a0", "\u2003", "\r", "\r\n", "\u2029", "/*c*/", "/*\n*/", "/**\r*/", "// \U0001F600\n", "//*\u2028"]
+CHARACTERS = [*"\"'`${}\\/*.?0189_xnebu#@!\n\r ab<=>+-&|", "\u00e9", "\u2028", "\u3000", "\U0001F600", "*/", "${", "\\u"]
 STRAY = (
     "a b x of get set let var const function if else for while do ( ) [ ] { } , ; : = => ... . ?. ?? || && + - ++ -- ** ! typeof new in"
     " instanceof this 1 's' `t` return break continue throw case default switch try catch finally delete == < ? += null class async yield"
@@ -77,5 +79,16 @@ class Texts:
         for _ in range(self.random.choice([0, 1, 1, 1, 2, 3])):
             if tokens:
                 self.change(tokens)
-        gap = lambda: "\n" if self.random.random() < 0.06 else " "
-        return "".join(token + gap() for token in tokens if token)
+        written = "".join(token + self.random.choice(GAPS) for token in tokens if token)
+        return self.mangled(written) if self.random.random() < 0.4 else written
+
+    def mangled(self, text):
+        """The text with a few characters put in or put in the place of others, and perhaps without gaps."""
+        if self.random.random() < 0.2:
+            text = text.replace(" ", "")
+        if self.random.random() < 0.1:
+            text = "#!" + text
+        for _ in range(self.random.randint(0, 2)):
+            at = self.random.randint(0, len(text))
+            text = text[:at] + self.random.choice(CHARACTERS) + text[at + self.random.randint(0, 1) :]
+        return text
