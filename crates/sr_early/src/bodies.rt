@@ -1,4 +1,4 @@
-ghost use Rattle.std.specs.Prelude.{◌≡◌, ◌++◌, OnOk, false, IsTrue};
+ghost use Rattle.std.specs.Prelude.{◌≡◌, ℕ, ◌++◌, OnOk, false, IsTrue};
 ghost use Rattle.sr_early.specs.Kinds as kind;
 ghost use Rattle.sr_early.specs.Parts as parts;
 
@@ -87,10 +87,9 @@ pub fn function(
     context: &Context,
     places: &mut Items<usize>,
     node: &Node,
-    at: usize,
 ) -> Result<(), AllocError>
     requires { IsTrue (kind.is_function node.now) }
-    ensures { OnOk result (places.new ≡ places.old ++ parts.node_faults node.now at context.now) }
+    ensures { (at : ℕ) → OnOk result (places.new ≡ places.old ++ parts.node_faults node.now at context.now) }
 {
     match node {
         Node::Method(_, parameters, items) => {

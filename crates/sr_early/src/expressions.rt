@@ -1,4 +1,4 @@
-ghost use Rattle.std.specs.Prelude.{◌≡◌, ◌++◌, OnOk, IsTrue};
+ghost use Rattle.std.specs.Prelude.{◌≡◌, ℕ, ◌++◌, OnOk, IsTrue};
 ghost use Rattle.sr_early.specs.Kinds as kind;
 ghost use Rattle.sr_early.specs.Parts as parts;
 
@@ -126,10 +126,9 @@ pub fn access(
     context: &Context,
     places: &mut Items<usize>,
     node: &Node,
-    at: usize,
 ) -> Result<(), AllocError>
     requires { IsTrue (kind.is_access node.now) }
-    ensures { OnOk result (places.new ≡ places.old ++ parts.node_faults node.now at context.now) }
+    ensures { (at : ℕ) → OnOk result (places.new ≡ places.old ++ parts.node_faults node.now at context.now) }
 {
     match node {
         Node::Member(_, object, _) => expression(alloc, context, places, object.get()),

@@ -1,4 +1,4 @@
-ghost use Rattle.std.specs.Prelude.{◌≡◌, ◌++◌, OnOk, IsTrue};
+ghost use Rattle.std.specs.Prelude.{◌≡◌, ℕ, ◌++◌, OnOk, IsTrue};
 ghost use Rattle.sr_early.specs.Faults as spec;
 ghost use Rattle.sr_early.specs.Kinds as kind;
 ghost use Rattle.sr_names.specs.Names as names_of;
@@ -132,11 +132,10 @@ pub fn iteration(
     vars: &mut Items<Binding>,
     places: &mut Items<usize>,
     node: &Node,
-    at: usize,
 ) -> Result<(), AllocError>
     requires { IsTrue (kind.is_iteration node.now) }
     ensures vars { OnOk result (vars.new ≡ vars.old ++ parts.node_vars node.now) }
-    ensures places { OnOk result (places.new ≡ places.old ++ parts.node_faults node.now at context.now) }
+    ensures places { (at : ℕ) → OnOk result (places.new ≡ places.old ++ parts.node_faults node.now at context.now) }
 {
     match node {
         Node::ForIn(head, value, statement) => {
@@ -171,11 +170,10 @@ pub fn repetition(
     vars: &mut Items<Binding>,
     places: &mut Items<usize>,
     node: &Node,
-    at: usize,
 ) -> Result<(), AllocError>
     requires { IsTrue (kind.is_repetition node.now) }
     ensures vars { OnOk result (vars.new ≡ vars.old ++ parts.node_vars node.now) }
-    ensures places { OnOk result (places.new ≡ places.old ++ parts.node_faults node.now at context.now) }
+    ensures places { (at : ℕ) → OnOk result (places.new ≡ places.old ++ parts.node_faults node.now at context.now) }
 {
     match node {
         Node::Do(statement, test) => {

@@ -1,4 +1,4 @@
-ghost use Rattle.std.specs.Prelude.{◌≡◌, ◌++◌, OnOk, IsTrue};
+ghost use Rattle.std.specs.Prelude.{◌≡◌, ℕ, ◌++◌, OnOk, IsTrue};
 ghost use Rattle.sr_early.specs.Kinds as kind;
 ghost use Rattle.sr_names.specs.Names as names_of;
 ghost use Rattle.sr_early.specs.Parts as parts;
@@ -240,10 +240,9 @@ pub fn module_item(
     context: &Context,
     places: &mut Items<usize>,
     node: &Node,
-    at: usize,
 ) -> Result<(), AllocError>
     requires { IsTrue (kind.is_module_item node.now) }
-    ensures { OnOk result (places.new ≡ places.old ++ parts.node_faults node.now at context.now) }
+    ensures { (at : ℕ) → OnOk result (places.new ≡ places.old ++ parts.node_faults node.now at context.now) }
 {
     match node {
         Node::Import(first, others, _) => {

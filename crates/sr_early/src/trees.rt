@@ -163,7 +163,7 @@ fn node(
         | Node::Array(_)
         | Node::Object(_) => literal(alloc, context, places, node, at),
         Node::Member(..) | Node::Index(..) | Node::Call(..) | Node::New(..) => {
-            access(alloc, context, places, node, at)
+            access(alloc, context, places, node)
         }
         Node::Method(..)
         | Node::ComputedMethod(..)
@@ -172,7 +172,7 @@ fn node(
         | Node::Function(..)
         | Node::Arrow(..)
         | Node::ExpressionArrow(..)
-        | Node::FunctionDeclaration(..) => function(alloc, context, places, node, at),
+        | Node::FunctionDeclaration(..) => function(alloc, context, places, node),
         Node::Block(_)
         | Node::If(..)
         | Node::Switch(..)
@@ -181,10 +181,10 @@ fn node(
         | Node::Var(_)
         | Node::Export(_) => compound(alloc, context, vars, places, node, at),
         Node::Do(..) | Node::While(..) | Node::For(..) => {
-            repetition(alloc, context, vars, places, node, at)
+            repetition(alloc, context, vars, places, node)
         }
         Node::ForIn(..) | Node::ForInTarget(..) | Node::ForOf(..) | Node::ForOfTarget(..) => {
-            iteration(alloc, context, vars, places, node, at)
+            iteration(alloc, context, vars, places, node)
         }
         Node::Expression(_)
         | Node::Directive(_)
@@ -196,7 +196,7 @@ fn node(
         | Node::Throw(_)
         | Node::Debugger => simple(alloc, context, places, node, at),
         Node::Import(..) | Node::ExportAll(..) | Node::ExportNames(..) | Node::ExportDefault(_) =>
-            module_item(alloc, context, places, node, at),
+            module_item(alloc, context, places, node),
         _ => operation(alloc, context, places, node, at),
     }
 }
