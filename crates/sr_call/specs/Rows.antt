@@ -1,8 +1,10 @@
--- The rows of the built-in functions: what a call of each does, step by step.
+-- The rows of the built-in functions: what a call of each does, step by step, with its charges.
 use Rattle.std.specs.Prelude.{List, [], ◌∷◌, ◌++◌}
 use Rattle.sr_model.specs.Values.{Text, Value, Simple, Undefined}
-use Rattle.sr_model.specs.Scripts.{charge, enter, line}
+use Rattle.sr_model.specs.Scripts.{Pay, Enter, Line}
 use Rattle.sr_conv.specs.Conversions.{to_text}
+use Rattle.sr_state.specs.declared.frame.BuiltIn.{BuiltIn}
+use Rattle.sr_state.specs.declared.frame.BuiltIn.TheVariants as built_in
 use Rattle.sr_state.specs.Work.{Steps}
 use Rattle.sr_state.specs.Trees.{give_value, computed, made}
 
@@ -14,7 +16,7 @@ joined (s ∷ t ∷ ts) = s ++ 0x20 ∷ joined (t ∷ ts)
 
 -- `print`: the line is printed, and undefined is given
 abbrev pub print_line : Text → Steps
-print_line text = line text (give_value (Simple Undefined))
+print_line text = Line text (give_value (Simple Undefined))
 
 -- the line is made of the texts
 abbrev pub print_joined : Text → Steps
@@ -23,8 +25,12 @@ print_joined text = made text (print_line text)
 -- each argument pays a step as its turn begins, and is made a text
 abbrev pub print_rest : List Value → List Text → Steps
 print_rest [] texts = print_joined (joined texts)
-print_rest (v ∷ vs) texts = charge 1 (computed (to_text v) (λ s. print_rest vs (texts ++ s ∷ [])))
+print_rest (v ∷ vs) texts = Pay 0 (computed (to_text v) (λ s. print_rest vs (texts ++ s ∷ [])))
 
 -- `print` with its arguments: the function is entered, and they are printed in order as one line
 abbrev pub print : List Value → Steps
-print vs = enter (print_rest vs [])
+print vs = Enter (print_rest vs [])
+
+-- the table of the built-in functions, with the this value and the arguments
+abbrev pub built_in_row : BuiltIn → Value → List Value → Steps
+built_in_row built_in.Print this args = print args

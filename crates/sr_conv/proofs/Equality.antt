@@ -9,6 +9,7 @@ use Rattle.sr_value.specs.declared.value.Value.{Value}
 use Rattle.sr_value.specs.declared.value.Value.TheVariants.{Undefined, Null, Bool as Truth, Num, Str, Sym, Obj}
 use Rattle.sr_value.specs.declared.symbol.Symbol.{Symbol}
 use Rattle.sr_value.specs.declared.symbol.Symbol.TheVariants.{WellKnown, Registered, Made}
+use Rattle.sr_value.specs.declared.symbol.MadeSymbol.{MadeSymbol}
 use Rattle.sr_value.specs.declared.symbol.WellKnown.TheVariants.{Iterator, ToPrimitive, ToStringTag}
 use Rattle.sr_value.specs.Equality.{IsStrictlyEqual}
 use Rattle.sr_tag.specs.Reference.{Reference}
@@ -29,13 +30,20 @@ description_self : (d : Option (List ℕ)) → same_description d d ≡ true
 description_self None = refl
 description_self (Some t) = same_self t
 
+made_symbol_self : (m : MadeSymbol) → same_symbol (symbol_of (Made m)) (symbol_of (Made m)) ≡ true
+made_symbol_self m =
+    let path = same_self m.maker in
+    let number = eq-eqb m.number m.number refl in
+    and_in (same m.maker m.maker && nat_eq m.number m.number) (same_description m.description m.description)
+    (and_in (same m.maker m.maker) (nat_eq m.number m.number) path number)
+    (description_self m.description)
+
 symbol_self : (s : Symbol) → same_symbol (symbol_of s) (symbol_of s) ≡ true
 symbol_self (WellKnown Iterator) = refl
 symbol_self (WellKnown ToPrimitive) = refl
 symbol_self (WellKnown ToStringTag) = refl
 symbol_self (Registered t) = same_self t
-symbol_self (Made p n d) =
-    and_in (same p p && nat_eq n n) (same_description d d) (and_in (same p p) (nat_eq n n) (same_self p) (eq-eqb n n refl)) (description_self d)
+symbol_self (Made m) = made_symbol_self m
 
 equal_self : (x : Value) → x ≢ Num None → is_strictly_equal (value_of x) (value_of x) ≡ true
 equal_self Undefined h = refl
@@ -56,28 +64,32 @@ descriptions_one None (Some t) h = cc
 descriptions_one (Some s) None h = cc
 descriptions_one (Some s) (Some t) h = ap Some (same_tells s t h)
 
+made_symbols_one : (m n : MadeSymbol) → same_symbol (symbol_of (Made m)) (symbol_of (Made n)) ≡ true → m ≡ n
+made_symbols_one m n h =
+    let a = and_out (same m.maker n.maker && nat_eq m.number n.number) (same_description m.description n.description) h in
+    let b = and_out (same m.maker n.maker) (nat_eq m.number n.number) a.0 in
+    let path = same_tells m.maker n.maker b.0 in
+    let number = eqb-true m.number n.number b.1 in
+    let description = descriptions_one m.description n.description a.1 in
+    λ i. record { maker = path i; number = number i; description = description i }
+
 symbols_one : (a b : Symbol) → same_symbol (symbol_of a) (symbol_of b) ≡ true → a ≡ b
 symbols_one (WellKnown Iterator) (WellKnown Iterator) h = refl
 symbols_one (WellKnown ToPrimitive) (WellKnown ToPrimitive) h = refl
 symbols_one (WellKnown ToStringTag) (WellKnown ToStringTag) h = refl
 symbols_one (Registered s) (Registered t) h = ap Registered (same_tells s t h)
-symbols_one (Made p m d) (Made q n e) h =
-    let a = and_out (same p q && nat_eq m n) (same_description d e) h in
-    let b = and_out (same p q) (nat_eq m n) a.0 in
-    let path = same_tells p q b.0 in
-    let number = eqb-true m n b.1 in
-    let description = descriptions_one d e a.1 in cc
+symbols_one (Made m) (Made n) h = ap Made (made_symbols_one m n h)
 symbols_one (WellKnown Iterator) b h = cc
 symbols_one (WellKnown ToPrimitive) b h = cc
 symbols_one (WellKnown ToStringTag) b h = cc
 symbols_one (Registered s) (WellKnown Iterator) h = cc
 symbols_one (Registered s) (WellKnown ToPrimitive) h = cc
 symbols_one (Registered s) (WellKnown ToStringTag) h = cc
-symbols_one (Registered s) (Made q n e) h = cc
-symbols_one (Made p m d) (WellKnown Iterator) h = cc
-symbols_one (Made p m d) (WellKnown ToPrimitive) h = cc
-symbols_one (Made p m d) (WellKnown ToStringTag) h = cc
-symbols_one (Made p m d) (Registered t) h = cc
+symbols_one (Registered s) (Made n) h = cc
+symbols_one (Made m) (WellKnown Iterator) h = cc
+symbols_one (Made m) (WellKnown ToPrimitive) h = cc
+symbols_one (Made m) (WellKnown ToStringTag) h = cc
+symbols_one (Made m) (Registered t) h = cc
 
 truths_one : (a b : Bool) → same_truth a b ≡ true → a ≡ b
 truths_one true true h = refl

@@ -16,7 +16,7 @@ symbol_of (symbol.WellKnown known.Iterator) = model.WellKnown 0
 symbol_of (symbol.WellKnown known.ToPrimitive) = model.WellKnown 1
 symbol_of (symbol.WellKnown known.ToStringTag) = model.WellKnown 2
 symbol_of (symbol.Registered text) = model.Registered text
-symbol_of (symbol.Made path number description) = model.Made path number description
+symbol_of (symbol.Made made) = model.Made made.maker made.number made.description
 
 -- a value. An object is its number in its realm, which is one more than its place
 abbrev pub value_of : Value → model.Value

@@ -1,5 +1,5 @@
 -- What is told of an uncaught throw.
-use Rattle.std.specs.Prelude.{ℕ, zero, suc, [], ◌∷◌, ◌++◌, take, Option, None, Some, codes}
+use Rattle.std.specs.Prelude.{ℕ, zero, suc, [], ◌++◌, take, Option, None, Some, codes}
 use Rattle.sr_model.specs.Values.{Text, Symbol, WellKnown, Registered, Made, Primitive, Undefined, Null, Truth, Num, Str, Sym, Value, Simple, Object}
 use Rattle.sr_conv.specs.Conversions.{number_text, truth_text}
 

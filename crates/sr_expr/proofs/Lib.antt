@@ -1,3 +1,2 @@
-pub mod Making
-pub mod Steps
 pub mod Drops
+pub mod Paid

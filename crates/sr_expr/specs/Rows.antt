@@ -1,5 +1,5 @@
--- The rows of the expressions (ECMA-262 13): what the evaluation of each does, step by step.
-use Rattle.std.specs.Prelude.{ℕ, Bool, true, false, not, List, [], ◌∷◌, ◌++◌, Option, None, Some}
+-- The rows of the expressions (ECMA-262 13): what the evaluation of each does, step by step, with its charge.
+use Rattle.std.specs.Prelude.{ℕ, Bool, true, false, not, List, [], ◌∷◌, ◌++◌, Option, None, Some, map}
 use Rattle.sr_ast.specs.declared.tree.Tree.{Tree}
 use Rattle.sr_ast.specs.declared.tree.Case.{Case}
 use Rattle.sr_ast.specs.declared.tree.Declaration.{Declaration}
@@ -8,35 +8,31 @@ use Rattle.sr_ast.specs.declared.tree.Element.TheOpen as layer
 use Rattle.sr_ast.specs.declared.tree.Node.{Node}
 use Rattle.sr_ast.specs.declared.tree.Property.{Property}
 use Rattle.sr_ast.specs.Layer.{Layer, layer_of}
+use Rattle.sr_ast.specs.declared.operators.Link.{Link}
+use Rattle.sr_ast.specs.declared.operators.Link.TheVariants as link
 use Rattle.sr_ast.specs.declared.operators.BinaryOp.{BinaryOp}
+use Rattle.sr_ast.specs.declared.operators.BinaryOp.TheVariants as binary_op
 use Rattle.sr_ast.specs.declared.operators.LogicalOp.{LogicalOp}
-use Rattle.sr_ast.specs.declared.operators.LogicalOp.TheVariants as logical
+use Rattle.sr_ast.specs.declared.operators.LogicalOp.TheVariants as logical_op
 use Rattle.sr_ast.specs.declared.operators.AssignOp.{AssignOp}
 use Rattle.sr_ast.specs.declared.operators.AssignOp.TheVariants as assign
 use Rattle.sr_ast.specs.declared.operators.UnaryOp.{UnaryOp}
+use Rattle.sr_ast.specs.declared.operators.UnaryOp.TheVariants as unary_op
 use Rattle.sr_ast.specs.declared.operators.UpdateOp.{UpdateOp}
-use Rattle.sr_model.specs.Values.{Text, Value, Simple, Undefined, Null, Num}
-use Rattle.sr_model.specs.Outcomes.{Normal}
-use Rattle.sr_model.specs.Tasks.{BuiltIn}
-use Rattle.sr_model.specs.Scripts.{give, part, changed}
+use Rattle.sr_model.specs.Values.{Text, Value, Simple, Undefined, Null, Truth, Num, Str}
+use Rattle.sr_model.specs.Tasks.{Run, Perform}
+use Rattle.sr_model.specs.Scripts.{Give, Look, Change, Become}
 use Rattle.sr_model.specs.Globals.{assigned, global_value, either}
 use Rattle.sr_conv.specs.Conversions.{to_boolean}
 use Rattle.sr_conv.specs.Operators.{operate, operate_one, step_number, shown, Stepped}
+use Rattle.sr_state.specs.declared.frame.BuiltIn.TheVariants as built_in
 use Rattle.sr_state.specs.Work.{Steps}
-use Rattle.sr_state.specs.Step.{print_number}
+use Rattle.sr_state.specs.Step.{found}
 use Rattle.sr_state.specs.Trees.{give_value, throw_error, computed, operated, begin, valued}
 
--- the value of a name, or a ReferenceError (6.2.5.5 GetValue)
-abbrev pub give_found : Option Value → Steps
-give_found None = throw_error
-give_found (Some v) = give_value v
-
-abbrev pub give_name : Text → Steps
-give_name x got r = give_found (global_value x r) got r
-
--- gives a name a value, and ends with it (6.2.5.6 PutValue)
+-- gives a name a value, and ends with a value (6.2.5.6 PutValue)
 abbrev pub put_and_give : Text → Value → Value → Steps
-put_and_give x v given = changed (assigned x v) (give_value given)
+put_and_give x v given = Change (assigned x v) (give_value given)
 
 -- 13.13: whether the left operand decides
 abbrev pub is_nullish : Value → Bool
@@ -45,9 +41,9 @@ is_nullish (Simple Null) = true
 is_nullish v = false
 
 abbrev pub decides : LogicalOp → Value → Bool
-decides logical.And v = not (to_boolean v)
-decides logical.Or v = to_boolean v
-decides logical.Coalesce v = not (is_nullish v)
+decides logical_op.And v = not (to_boolean v)
+decides logical_op.Or v = to_boolean v
+decides logical_op.Coalesce v = not (is_nullish v)
 
 -- the name of a target
 abbrev pub target_name : Layer → Text
@@ -65,6 +61,32 @@ expression_in x = None
 abbrev pub expression_of : Element → Option Tree
 expression_of x = expression_in (out-Element x)
 
+-- 13.10: `in` and `instanceof` ask for the properties and methods of an object, and are not built
+abbrev pub is_built : BinaryOp → Bool
+is_built binary_op.InstanceOf = false
+is_built binary_op.In = false
+is_built op = true
+
+-- 13.5.1: `delete` takes a property away, and is not built
+abbrev pub is_prefix_built : UnaryOp → Bool
+is_prefix_built unary_op.Delete = false
+is_prefix_built op = true
+
+-- 13.15.3: the operator between two values
+abbrev pub between : BinaryOp → Value → Value → Steps
+between op x y = operated (operate op x y) give_value
+
+-- 13.4: the old value, and the new one
+abbrev pub stored : UpdateOp → Text → Stepped → Steps
+stored op x n = put_and_give x (Simple (Num n.after)) (Simple (Num (shown op n.before n.after)))
+
+-- 13.15.2: the target is given the value, or what an operator comes to between its old value and the right side
+abbrev pub put : Tree → Value → Steps
+put t v = put_and_give (name_in t) v v
+
+abbrev pub put_between : BinaryOp → Tree → Value → Value → Steps
+put_between op t x y = operated (operate op x y) (put t)
+
 module _ (s e : ℕ) where
   -- a tree that is not built: after its charge an error is thrown. No script that is accepted has one
   abbrev pub not_built : ℕ → Steps
@@ -74,9 +96,9 @@ module _ (s e : ℕ) where
   abbrev pub literal : ℕ → Value → Steps
   literal at v = begin s e at (give_value v)
 
-  -- 13.1.3: a name
+  -- 13.1.3: the value of a name, or a ReferenceError (6.2.5.5 GetValue)
   abbrev pub name : ℕ → Text → Steps
-  name at x = begin s e at (give_name x)
+  name at x = begin s e at (Look (λ r. Give (found (global_value x r))))
 
   -- 13.16: expressions in order; the last one gives the value
   abbrev pub in_order : List Tree → Value → Steps
@@ -87,63 +109,89 @@ module _ (s e : ℕ) where
   sequence at ts = begin s e at (in_order ts (Simple Undefined))
 
   -- 13.14: the condition, and then one of the two
-  abbrev pub chosen : Tree → Steps
-  chosen t = valued s e t give_value
+  abbrev pub chosen : Tree → Tree → Value → Steps
+  chosen a b x = either (to_boolean x) (Become (Run s e a)) (Become (Run s e b))
 
-  abbrev pub condition : Tree → Tree → Tree → Steps
-  condition c a b = valued s e c (λ x. either (to_boolean x) (chosen a) (chosen b))
+  abbrev pub condition : ℕ → Tree → Tree → Tree → Steps
+  condition at c a b = begin s e at (valued s e c (chosen a b))
 
   -- 13.13: the left operand, and where it does not decide the right one
-  abbrev pub logical_left : LogicalOp → Tree → Tree → Steps
-  logical_left op a b = valued s e a (λ x. either (decides op x) (give_value x) (chosen b))
+  abbrev pub undecided : LogicalOp → Tree → Value → Steps
+  undecided op b x = either (decides op x) (give_value x) (Become (Run s e b))
+
+  abbrev pub logical : ℕ → LogicalOp → Tree → Tree → Steps
+  logical at op a b = begin s e at (valued s e a (undecided op b))
 
   -- 13.15.4: both operands from left to right, and the operator
-  abbrev pub binary_right : BinaryOp → Value → Tree → Steps
-  binary_right op x b = valued s e b (λ y. operated (operate op x y) give_value)
+  abbrev pub binary : ℕ → BinaryOp → Tree → Tree → Steps
+  binary at op a b = begin s e at (valued s e a (λ x. valued s e b (between op x)))
 
-  abbrev pub binary_left : BinaryOp → Tree → Tree → Steps
-  binary_left op a b = valued s e a (λ x. binary_right op x b)
+  abbrev pub operator : ℕ → BinaryOp → Tree → Tree → Steps
+  operator at op a b = either (is_built op) (binary at op a b) (not_built at)
 
   -- 13.5: the operand, and the operator
-  abbrev pub unary_operand : UnaryOp → Tree → Steps
-  unary_operand op a = valued s e a (λ x. operated (operate_one op x) give_value)
+  abbrev pub unary : ℕ → UnaryOp → Tree → Steps
+  unary at op a = begin s e at (valued s e a (λ x. operated (operate_one op x) give_value))
 
-  -- 13.4: the old value, and the new one
-  abbrev pub stored : UpdateOp → Text → Stepped → Steps
-  stored op x n = put_and_give x (Simple (Num n.after)) (Simple (Num (shown op n.before n.after)))
+  abbrev pub prefix : ℕ → UnaryOp → Tree → Steps
+  prefix at op a = either (is_prefix_built op) (unary at op a) (not_built at)
 
-  abbrev pub update_target : UpdateOp → Tree → Steps
-  update_target op t = valued s e t (λ v. computed (step_number op v) (stored op (name_in t)))
+  -- 13.4: the old value of the target, and the new one
+  abbrev pub update : ℕ → UpdateOp → Tree → Steps
+  update at op t = begin s e at (valued s e t (λ v. computed (step_number op v) (stored op (name_in t))))
 
-  -- 13.15.2: the value of the right side for the target
-  abbrev pub assign_value : Tree → Tree → Steps
-  assign_value t b = valued s e b (λ v. put_and_give (name_in t) v v)
+  -- 13.15.2: `=`. The old value is not read, and the target pays its own charge
+  abbrev pub plain_assignment : ℕ → Tree → Tree → Steps
+  plain_assignment at t b = begin s e at (begin s e t.from (valued s e b (put t)))
 
-  -- with an operator: the old value of the target, the right side, and the operator
-  abbrev pub compound_right : BinaryOp → Tree → Value → Tree → Steps
-  compound_right op t x b = valued s e b (λ y. operated (operate op x y) (λ v. put_and_give (name_in t) v v))
+  -- 13.15.2: an operator and `=`. The old value, the right side, and the operator
+  abbrev pub compound_assignment : ℕ → BinaryOp → Tree → Tree → Steps
+  compound_assignment at op t b = begin s e at (valued s e t (λ x. valued s e b (put_between op t x)))
 
-  abbrev pub compound_left : BinaryOp → Tree → Tree → Steps
-  compound_left op t b = valued s e t (λ x. compound_right op t x b)
+  -- 13.15.2: a logical operator and `=`. The old value, and where it does not decide the right side
+  abbrev pub put_undecided : LogicalOp → Tree → Tree → Value → Steps
+  put_undecided op t b x = either (decides op x) (give_value x) (valued s e b (put t))
 
-  -- with a logical operator: the old value of the target, and where it does not decide the right side
-  abbrev pub logical_target : LogicalOp → Tree → Tree → Steps
-  logical_target op t b = valued s e t (λ x. either (decides op x) (give_value x) (assign_value t b))
+  abbrev pub logical_assignment : ℕ → LogicalOp → Tree → Tree → Steps
+  logical_assignment at op t b = begin s e at (valued s e t (put_undecided op t b))
 
-  -- what follows the charge of an assignment. Where the old value is not read the target pays its own charge
-  abbrev pub assignment : AssignOp → Tree → Tree → Steps
-  assignment assign.Plain t b = begin s e t.from (assign_value t b)
-  assignment (assign.Compound op) t b = compound_left op t b
-  assignment (assign.Logical op) t b = logical_target op t b
+  abbrev pub assignment : ℕ → AssignOp → Tree → Tree → Steps
+  assignment at assign.Plain t b = plain_assignment at t b
+  assignment at (assign.Compound op) t b = compound_assignment at op t b
+  assignment at (assign.Logical op) t b = logical_assignment at op t b
 
-  -- 13.3.6: the callee, which is `print` and pays its own charge, the arguments from left to right, and the call
+  -- 13.3.6: the arguments from left to right, and the call
   abbrev pub called : List Value → Steps
-  called vs = part (BuiltIn print_number (Simple Undefined) vs None) (λ v. give (Normal v))
+  called vs = Become (Perform built_in.Print (Simple Undefined) vs None)
 
   abbrev pub arguments : List (Option Tree) → List Value → Steps
   arguments [] vs = called vs
   arguments (None ∷ ts) vs = throw_error
   arguments (Some t ∷ ts) vs = valued s e t (λ v. arguments ts (vs ++ v ∷ []))
 
-  abbrev pub call_callee : Tree → List (Option Tree) → Steps
-  call_callee callee ts = begin s e callee.from (arguments ts [])
+  -- 13.3.6: the callee, which is `print` and pays its own charge, the arguments, and the call
+  abbrev pub call : ℕ → Tree → List (Option Tree) → Steps
+  call at callee ts = begin s e at (begin s e callee.from (arguments ts []))
+
+  -- 13.3.9: optional chains are not built
+  abbrev pub linked : ℕ → Link → Tree → List (Option Tree) → Steps
+  linked at link.Plain callee ts = call at callee ts
+  linked at link.Optional callee ts = not_built at
+  linked at link.Chained callee ts = not_built at
+
+  -- the table of the expressions, by kind. What is no expression has no row here, and counts as not built
+  abbrev pub expression : ℕ → Layer → Steps
+  expression at (layer.Sequence ts) = sequence at ts
+  expression at (layer.Assign op t b named) = assignment at op t b
+  expression at (layer.Cond c a b) = condition at c a b
+  expression at (layer.Logical op a b) = logical at op a b
+  expression at (layer.Binary op a b) = operator at op a b
+  expression at (layer.Unary op a) = prefix at op a
+  expression at (layer.Update op t) = update at op t
+  expression at (layer.Call l callee xs) = linked at l callee (map expression_of xs)
+  expression at (layer.Name x) = name at x
+  expression at layer.Null = literal at (Simple Null)
+  expression at (layer.Bool b) = literal at (Simple (Truth b))
+  expression at (layer.Num n) = literal at (Simple (Num n))
+  expression at (layer.Text text) = literal at (Simple (Str text))
+  expression at l = not_built at

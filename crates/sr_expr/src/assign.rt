@@ -1,166 +1,169 @@
-ghost use Rattle.std.specs.Prelude.{IfOk};
+ghost use Rattle.std.specs.Prelude.{◌≡◌, IfOk, OnOk};
+ghost use Rattle.sr_model.specs.Globals.{assigned};
+ghost use Rattle.sr_conv.specs.Plain.{value_of};
+ghost use Rattle.sr_state.specs.Held.{with_side, change_in};
 ghost use Rattle.sr_state.specs.Step.{StepsBy};
-ghost use Rattle.sr_expr.specs.At.{plain_at, compound_at, logical_assign_at, assign_at};
+ghost use Rattle.sr_expr.specs.Rows.{name_in};
+ghost use Rattle.sr_expr.specs.Stages.{plain_at, compound_at, logical_assignment_at, assignment_at};
 
 use crate::choice::decides;
-use crate::ended::{end_operated, operated};
-use crate::parts::{begin, give, name_of, push_part, refused, value_or_undefined};
-use sqlite_items::Items;
-use sr_ast::{AssignOp, BinaryOp, LogicalOp, Tree};
+use crate::places::{Operand, operand_of};
+use sr_ast::{AssignOp, BinaryOp, LogicalOp, Node, Tree};
+use sr_conv::operate;
 use sr_shared::Shared;
-use sr_state::{Answer, Completion, Frame, Next, State};
+use sr_state::{Next, State, Valued, value_or_undefined};
+use sr_text::Str;
+use sr_value::Value;
 use std::alloc::{AllocError, Global};
+
+/// The stage at which a string that was joined is paid.
+const PAID: u32 = 3;
+
+/// The name of a target; what is no name counts as the empty one.
+fn name_of(alloc: Global, target: &Tree) -> Result<Str, AllocError>
+    ensures { IfOk result (λ s. s ≡ name_in target.now) }
+{
+    match &target.node {
+        Node::Name(name) => Ok(name.clone()?),
+        _ => match Str::of_units(alloc, &[]) {
+            Ok(empty) => Ok(empty),
+            Err(_) => Err(AllocError),
+        },
+    }
+}
+
+/// Gives the name that a target is a value (ECMA-262 6.2.5.6).
+pub fn put(state: &mut State, target: &Shared<Tree>, value: &Value) -> Result<(), AllocError>
+    ensures { OnOk result (state.new ≡ with_side state.old (change_in (assigned (name_in target.now) (value_of value.now)) state.old.side)) }
+{
+    let name = name_of(state.alloc(), target.get())?;
+    state.assign(&name, value.clone()?)
+}
 
 /// `=` (ECMA-262 13.15.2). The target pays its own charge, in a step of its own.
 fn plain(
-    alloc: Global,
     state: &mut State,
-    frame: &mut Frame,
-    source: u32,
     at: usize,
     target: &Shared<Tree>,
     right: &Shared<Tree>,
 ) -> Result<Next, AllocError>
-    ensures { IfOk result (λ next. StepsBy (plain_at source 0 at target.now right.now) frame.old state.old next state.new) }
+    ensures { IfOk result (λ next. StepsBy (plain_at at target.now right.now) state.old next state.new) }
 {
-    match frame.stage {
-        0 => {
-            if let Some(stop) = begin(state, source, at) {
-                return Ok(stop);
-            }
-            frame.stage = 1;
-            state.put_back(alloc, frame)?;
-            Ok(Next::Pushed)
-        }
-        1 => {
-            if let Some(stop) = begin(state, source, target.get().from) {
-                return Ok(stop);
-            }
-            frame.stage = 2;
-            push_part(alloc, state, frame, source, right)
-        }
-        2 => match state.take_answer() {
-            Answer::Empty => push_part(alloc, state, frame, source, right),
-            Answer::Done(Completion::Abrupt(x)) => Ok(Next::Give(Completion::Abrupt(x))),
-            Answer::Done(Completion::Normal(value)) => {
-                let value = value_or_undefined(value);
-                state.assign(&name_of(alloc, target.get())?, value.clone()?)?;
-                Ok(give(value))
+    match state.stage() {
+        0 => match state.begin(at) {
+            Some(stop) => Ok(stop),
+            None => {
+                state.set_stage(1);
+                Ok(Next::Going)
             }
         },
-        _ => Ok(refused(state)),
+        1 => match state.begin(target.get().from) {
+            Some(stop) => Ok(stop),
+            None => {
+                state.set_stage(2);
+                state.begin_part(right)
+            }
+        },
+        _ => match state.resume_value(right)? {
+            Valued::Left(next) => Ok(next),
+            Valued::Value(value) => {
+                put(state, target, &value)?;
+                Ok(state.give(value))
+            }
+        },
     }
 }
 
 /// An operator and `=` (ECMA-262 13.15.2): the old value, the right side, and the operator between them.
 fn compound(
-    alloc: Global,
     state: &mut State,
-    frame: &mut Frame,
-    source: u32,
     at: usize,
     op: BinaryOp,
     target: &Shared<Tree>,
     right: &Shared<Tree>,
 ) -> Result<Next, AllocError>
-    ensures { IfOk result (λ next. StepsBy (compound_at source 0 at op target.now right.now) frame.old state.old next state.new) }
+    ensures { IfOk result (λ next. StepsBy (compound_at at op target.now right.now) state.old next state.new) }
 {
-    match frame.stage {
-        0 => {
-            if let Some(stop) = begin(state, source, at) {
-                return Ok(stop);
-            }
-            frame.stage = 1;
-            push_part(alloc, state, frame, source, target)
-        }
-        1 => match state.take_answer() {
-            Answer::Empty => push_part(alloc, state, frame, source, target),
-            Answer::Done(Completion::Abrupt(x)) => Ok(Next::Give(Completion::Abrupt(x))),
-            Answer::Done(Completion::Normal(x)) => {
-                frame.kept = Items::new(alloc);
-                frame.kept.push(value_or_undefined(x))?;
-                frame.stage = 2;
-                push_part(alloc, state, frame, source, right)
+    match operand_of(state.stage()) {
+        Operand::Start => state.begin_with(at, target),
+        Operand::First => match state.resume_value(target)? {
+            Valued::Left(next) => Ok(next),
+            Valued::Value(x) => {
+                state.keep(x);
+                state.set_stage(2);
+                state.begin_part(right)
             }
         },
-        2 => match state.take_answer() {
-            Answer::Empty => push_part(alloc, state, frame, source, right),
-            Answer::Done(Completion::Abrupt(x)) => Ok(Next::Give(Completion::Abrupt(x))),
-            Answer::Done(Completion::Normal(y)) => {
-                let name = name_of(alloc, target.get())?;
-                let came = operated(alloc, op, frame, y)?;
-                end_operated(alloc, state, came, Some(&name))
+        Operand::Second => match state.resume_value(right)? {
+            Valued::Left(next) => Ok(next),
+            Valued::Value(y) => {
+                let x = value_or_undefined(state.take_kept());
+                let came = operate(state.alloc(), op, &x, &y)?;
+                match state.operated(came, PAID)? {
+                    Valued::Left(next) => Ok(next),
+                    Valued::Value(value) => {
+                        put(state, target, &value)?;
+                        Ok(state.give(value))
+                    }
+                }
             }
         },
-        _ => Ok(refused(state)),
+        Operand::Paid(_) => match state.pay_kept() {
+            Valued::Left(next) => Ok(next),
+            Valued::Value(value) => {
+                put(state, target, &value)?;
+                Ok(state.give(value))
+            }
+        },
     }
 }
 
 /// A logical operator and `=` (ECMA-262 13.15.2): the old value, and where it does not decide the right side.
-fn logical_assign(
-    alloc: Global,
+fn logical_assignment(
     state: &mut State,
-    frame: &mut Frame,
-    source: u32,
     at: usize,
     op: LogicalOp,
     target: &Shared<Tree>,
     right: &Shared<Tree>,
 ) -> Result<Next, AllocError>
-    ensures { IfOk result (λ next. StepsBy (logical_assign_at source 0 at op target.now right.now) frame.old state.old next state.new) }
+    ensures { IfOk result (λ next. StepsBy (logical_assignment_at at op target.now right.now) state.old next state.new) }
 {
-    match frame.stage {
-        0 => {
-            if let Some(stop) = begin(state, source, at) {
-                return Ok(stop);
-            }
-            frame.stage = 1;
-            push_part(alloc, state, frame, source, target)
-        }
-        1 => match state.take_answer() {
-            Answer::Empty => push_part(alloc, state, frame, source, target),
-            Answer::Done(Completion::Abrupt(x)) => Ok(Next::Give(Completion::Abrupt(x))),
-            Answer::Done(Completion::Normal(x)) => {
-                let x = value_or_undefined(x);
+    match state.stage() {
+        0 => state.begin_with(at, target),
+        1 => match state.resume_value(target)? {
+            Valued::Left(next) => Ok(next),
+            Valued::Value(x) => {
                 if decides(op, &x) {
-                    Ok(give(x))
+                    Ok(state.give(x))
                 } else {
-                    frame.stage = 2;
-                    push_part(alloc, state, frame, source, right)
+                    state.set_stage(2);
+                    state.begin_part(right)
                 }
             }
         },
-        2 => match state.take_answer() {
-            Answer::Empty => push_part(alloc, state, frame, source, right),
-            Answer::Done(Completion::Abrupt(x)) => Ok(Next::Give(Completion::Abrupt(x))),
-            Answer::Done(Completion::Normal(value)) => {
-                let value = value_or_undefined(value);
-                state.assign(&name_of(alloc, target.get())?, value.clone()?)?;
-                Ok(give(value))
+        _ => match state.resume_value(right)? {
+            Valued::Left(next) => Ok(next),
+            Valued::Value(value) => {
+                put(state, target, &value)?;
+                Ok(state.give(value))
             }
         },
-        _ => Ok(refused(state)),
     }
 }
 
 /// An assignment, by its operator (ECMA-262 13.15.2).
-pub fn assign(
-    alloc: Global,
+pub fn assignment(
     state: &mut State,
-    frame: &mut Frame,
-    source: u32,
     at: usize,
     op: AssignOp,
     target: &Shared<Tree>,
     right: &Shared<Tree>,
 ) -> Result<Next, AllocError>
-    ensures { IfOk result (λ next. StepsBy (assign_at source 0 at op target.now right.now) frame.old state.old next state.new) }
+    ensures { IfOk result (λ next. StepsBy (assignment_at at op target.now right.now) state.old next state.new) }
 {
     match op {
-        AssignOp::Plain => plain(alloc, state, frame, source, at, target, right),
-        AssignOp::Compound(op) => compound(alloc, state, frame, source, at, op, target, right),
-        AssignOp::Logical(op) => {
-            logical_assign(alloc, state, frame, source, at, op, target, right)
-        }
+        AssignOp::Plain => plain(state, at, target, right),
+        AssignOp::Compound(op) => compound(state, at, op, target, right),
+        AssignOp::Logical(op) => logical_assignment(state, at, op, target, right),
     }
 }

@@ -1,124 +1,88 @@
-ghost use Rattle.std.specs.Prelude.{◌≡◌, ℕ, suc, ◌∷◌, map, IfOk, OnOk};
-ghost use Rattle.sr_ast.specs.declared.tree.Tree as tree;
-ghost use Rattle.sr_state.specs.declared.frame.Activity.TheVariants as activity;
-ghost use Rattle.sr_state.specs.declared.frame.BuiltIn.TheVariants as built_in;
+ghost use Rattle.std.specs.Prelude.{◌≡◌, ℕ, suc, map, IfOk};
+ghost use Rattle.sr_ast.specs.declared.tree.Tree.{Tree};
 ghost use Rattle.sr_state.specs.Step.{StepsBy};
-ghost use Rattle.sr_expr.specs.At.{call_at};
+ghost use Rattle.sr_expr.specs.Stages.{call_at, linked_at};
 ghost use Rattle.sr_expr.specs.Rows.{expression_of};
 
-use crate::parts::{begin, push_part, throw, value_or_undefined};
+use crate::basic::not_built;
 use crate::places::{Argument, Place, after, argument_at, place_of};
 use sqlite_items::Items;
-use sr_ast::{Element, Tree};
+use sr_ast::{Element, Link, Tree};
 use sr_shared::Shared;
-use sr_state::{Activity, Answer, BuiltIn, Completion, Frame, Next, State};
-use sr_value::Value;
-use std::alloc::{AllocError, Global};
-
-/// The same values once more.
-fn copied(alloc: Global, values: &Items<Value>) -> Result<Items<Value>, AllocError>
-    ensures { IfOk result (λ copy. copy ≡ values.now) }
-{
-    let mut copy = Items::new(alloc);
-    for value in values.as_slice() {
-        copy.push(value.clone()?)?;
-    }
-    Ok(copy)
-}
-
-/// Puts the frame of a call back, and one for the callee above it, with the values that it keeps as the arguments.
-fn push_call(alloc: Global, state: &mut State, frame: &mut Frame) -> Result<Next, AllocError>
-    ensures next { IfOk result (λ next. next ≡ Next.Pushed) }
-    ensures state { OnOk result (state.new ≡ (let h = state.old in record h { frames = record { activity = activity.BuiltIn built_in.Print; stage = 0; kept = frame.old.kept; calls = frame.old.calls } ∷ record { activity = frame.old.activity; stage = 2; kept = frame.old.kept; calls = frame.old.calls } ∷ h.frames })) }
-{
-    let callee = Frame {
-        activity: Activity::BuiltIn(BuiltIn::Print),
-        stage: 0,
-        kept: copied(alloc, &frame.kept)?,
-        calls: frame.calls,
-    };
-    frame.stage = 2;
-    state.put_back(alloc, frame)?;
-    state.push(callee)?;
-    Ok(Next::Pushed)
-}
+use sr_state::{BuiltIn, Next, State, Valued};
+use std::alloc::AllocError;
 
 /// A call (ECMA-262 13.3.6): the charge of the callee, which is `print`, the arguments from left to right, and the call.
-pub fn call(
-    alloc: Global,
+fn call(
     state: &mut State,
-    frame: &mut Frame,
-    source: u32,
     at: usize,
     callee: &Shared<Tree>,
     arguments: &Items<Element>,
 ) -> Result<Next, AllocError>
-    ensures { IfOk result (λ next. StepsBy (call_at source 0 at callee.now (map expression_of arguments.now)) frame.old state.old next state.new) }
+    ensures { IfOk result (λ next. StepsBy (call_at at callee.now (map expression_of arguments.now)) state.old next state.new) }
 {
-    match place_of(frame.stage) {
-        Place::Start => {
-            if let Some(stop) = begin(state, source, at) {
-                return Ok(stop);
+    match place_of(state.stage()) {
+        Place::Start => match state.begin(at) {
+            Some(stop) => Ok(stop),
+            None => {
+                state.set_stage(1);
+                Ok(Next::Going)
             }
-            frame.stage = 1;
-            state.put_back(alloc, frame)?;
-            Ok(Next::Pushed)
-        }
-        Place::Callee => {
-            if let Some(stop) = begin(state, source, callee.get().from) {
-                return Ok(stop);
-            }
-            frame.kept = Items::new(alloc);
-            match argument_at(arguments, 0) {
-                Argument::End => push_call(alloc, state, frame),
-                Argument::NotBuilt => Ok(throw()),
-                Argument::Expression(first) => {
-                    frame.stage = 3;
-                    push_part(alloc, state, frame, source, first)
+        },
+        Place::Callee => match state.begin(callee.get().from) {
+            Some(stop) => Ok(stop),
+            None => {
+                state.take_list();
+                match argument_at(arguments, 0) {
+                    Argument::End => Ok(state.become_call(BuiltIn::Print)),
+                    Argument::NotBuilt => Ok(state.throw()),
+                    Argument::Expression(first) => {
+                        state.set_stage(2);
+                        state.begin_part(first)
+                    }
                 }
             }
-        }
-        Place::Called => match state.take_answer() {
-            Answer::Empty => push_call(alloc, state, frame),
-            Answer::Done(Completion::Abrupt(x)) => Ok(Next::Give(Completion::Abrupt(x))),
-            Answer::Done(Completion::Normal(x)) => Ok(Next::Give(Completion::Normal(x))),
         },
-        Place::Argument(number) => argument(alloc, state, frame, source, arguments, number),
+        Place::Argument(number) => argument(state, number, arguments),
     }
 }
 
-/// A step of a call at the argument of this number.
-fn argument(
-    alloc: Global,
-    state: &mut State,
-    frame: &mut Frame,
-    source: u32,
-    arguments: &Items<Element>,
-    number: u32,
-) -> Result<Next, AllocError>
-    requires { frame.old.stage ≡ suc (suc (suc number)) }
-    ensures { IfOk result (λ next. (at : ℕ) (callee : tree.Tree) → StepsBy (call_at source 0 at callee (map expression_of arguments.now)) frame.old state.old next state.new) }
+/// A call (ECMA-262 13.3.6) at the argument of this number, from 0.
+fn argument(state: &mut State, number: u32, arguments: &Items<Element>) -> Result<Next, AllocError>
+    requires { state.old.top.stage ≡ suc (suc number) }
+    ensures { IfOk result (λ next. (at : ℕ) (callee : Tree) → StepsBy (call_at at callee (map expression_of arguments.now)) state.old next state.new) }
 {
-    match (argument_at(arguments, number), state.take_answer()) {
-        (Argument::NotBuilt, _) => Ok(throw()),
-        (Argument::End, Answer::Empty) => push_call(alloc, state, frame),
-        (Argument::Expression(part), Answer::Empty) => {
-            push_part(alloc, state, frame, source, part)
-        }
-        (_, Answer::Done(Completion::Abrupt(x))) => Ok(Next::Give(Completion::Abrupt(x))),
-        (Argument::End, Answer::Done(Completion::Normal(x))) => {
-            Ok(Next::Give(Completion::Normal(x)))
-        }
-        (Argument::Expression(_), Answer::Done(Completion::Normal(value))) => {
-            frame.kept.push(value_or_undefined(value))?;
-            match argument_at(arguments, after(number)?) {
-                Argument::End => push_call(alloc, state, frame),
-                Argument::NotBuilt => Ok(throw()),
-                Argument::Expression(next) => {
-                    frame.stage = after(frame.stage)?;
-                    push_part(alloc, state, frame, source, next)
+    match argument_at(arguments, number) {
+        Argument::End | Argument::NotBuilt => Ok(state.throw()),
+        Argument::Expression(here) => match state.resume_value(here)? {
+            Valued::Left(next) => Ok(next),
+            Valued::Value(value) => {
+                state.keep_more(value)?;
+                match argument_at(arguments, after(number)?) {
+                    Argument::End => Ok(state.become_call(BuiltIn::Print)),
+                    Argument::NotBuilt => Ok(state.throw()),
+                    Argument::Expression(next) => {
+                        state.set_stage(after(state.stage())?);
+                        state.begin_part(next)
+                    }
                 }
             }
-        }
+        },
+    }
+}
+
+/// A call, by how it is linked to its callee (ECMA-262 13.3.6, 13.3.9). One in an optional chain throws after its charge.
+pub fn linked(
+    state: &mut State,
+    at: usize,
+    link: Link,
+    callee: &Shared<Tree>,
+    arguments: &Items<Element>,
+) -> Result<Next, AllocError>
+    ensures { IfOk result (λ next. StepsBy (linked_at at link callee.now (map expression_of arguments.now)) state.old next state.new) }
+{
+    match link {
+        Link::Plain => call(state, at, callee, arguments),
+        Link::Optional | Link::Chained => Ok(not_built(state, at)),
     }
 }

@@ -7,20 +7,14 @@ mod assign;
 mod basic;
 /// Operators with both operands.
 mod binary;
-/// What is built of operators and calls.
-mod built;
 /// Calls.
 mod call;
 /// Conditions and logical operators.
 mod choice;
-/// How the steps of operators end.
-mod ended;
-/// The step of a frame, by the kind of its tree.
+/// The step of the frame on top, by the kind of its tree.
 mod kinds;
 /// Lists of expressions.
 mod lists;
-/// Parts of trees, and values that frames keep.
-mod parts;
 /// How far lists are carried out.
 mod places;
 /// Operators before or after one operand.

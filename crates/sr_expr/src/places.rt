@@ -1,6 +1,6 @@
 ghost use Rattle.std.specs.Prelude.{◌≡◌, suc, map, IfOk, MatchOption};
 ghost use Rattle.std.specs.Option.{option_copied};
-ghost use Rattle.sr_expr.specs.Places.{Here, IsArgument, IsPlace};
+ghost use Rattle.sr_expr.specs.Places.{Here, IsArgument, IsOperand, IsPlace};
 ghost use Rattle.sr_expr.specs.Rows.{expression_of};
 
 use sqlite_items::Items;
@@ -14,8 +14,6 @@ pub enum Place {
     Start,
     /// At its callee.
     Callee,
-    /// It is under way.
-    Called,
     /// At the argument of this number, from 0.
     Argument(u32),
 }
@@ -27,8 +25,31 @@ pub fn place_of(stage: u32) -> Place
     match stage {
         0 => Place::Start,
         1 => Place::Callee,
-        2 => Place::Called,
-        _ => Place::Argument(stage - 3),
+        _ => Place::Argument(stage - 2),
+    }
+}
+
+/// How far an operator between operands is.
+pub enum Operand {
+    /// At its beginning.
+    Start,
+    /// At the first operand.
+    First,
+    /// At the second operand.
+    Second,
+    /// Where a string that was joined is paid, this many stages after the first such.
+    Paid(u32),
+}
+
+/// How far the operator of this stage is.
+pub fn operand_of(stage: u32) -> Operand
+    ensures { IsOperand stage result }
+{
+    match stage {
+        0 => Operand::Start,
+        1 => Operand::First,
+        2 => Operand::Second,
+        _ => Operand::Paid(stage - 3),
     }
 }
 

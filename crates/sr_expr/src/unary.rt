@@ -1,93 +1,95 @@
-ghost use Rattle.std.specs.Prelude.{◌≡◌, IfOk, Option};
-ghost use Rattle.sr_conv.specs.Plain.{option_of};
-ghost use Rattle.sr_conv.specs.Answers.{computed_of, stepped_of};
-ghost use Rattle.sr_conv.specs.Operators as spec;
+ghost use Rattle.std.specs.Prelude.{◌≡◌, IfOk};
 ghost use Rattle.sr_state.specs.Step.{StepsBy};
-ghost use Rattle.sr_state.specs.Trees.{value_in};
-ghost use Rattle.sr_expr.specs.At.{unary_at, update_at};
+ghost use Rattle.sr_expr.specs.Rows as rows;
+ghost use Rattle.sr_expr.specs.Stages.{unary_at, prefix_at, update_at};
 
-use crate::ended::{end_operated, operated_one};
-use crate::parts::{begin, give, name_of, push_part, refused, throw, value_or_undefined};
+use crate::assign::put;
+use crate::basic::not_built;
 use sr_ast::{Tree, UnaryOp, UpdateOp};
-use sr_conv::{Computed, Stepped, shown, step_number};
+use sr_conv::{Computed, operate_one, shown, step_number};
 use sr_shared::Shared;
-use sr_state::{Answer, Completion, Frame, Next, State, StopName};
+use sr_state::{Next, State, StopName, Valued};
 use sr_value::Value;
-use std::alloc::{AllocError, Global};
+use std::alloc::AllocError;
+
+/// The stage at which a string that was made is paid.
+const PAID: u32 = 2;
 
 /// An operator before its operand (ECMA-262 13.5).
-pub fn unary(
-    alloc: Global,
+fn unary(
     state: &mut State,
-    frame: &mut Frame,
-    source: u32,
     at: usize,
     op: UnaryOp,
     operand: &Shared<Tree>,
 ) -> Result<Next, AllocError>
-    ensures { IfOk result (λ next. StepsBy (unary_at source 0 at op operand.now) frame.old state.old next state.new) }
+    ensures { IfOk result (λ next. StepsBy (unary_at at op operand.now) state.old next state.new) }
 {
-    match frame.stage {
-        0 => {
-            if let Some(stop) = begin(state, source, at) {
-                return Ok(stop);
-            }
-            frame.stage = 1;
-            push_part(alloc, state, frame, source, operand)
-        }
-        1 => match state.take_answer() {
-            Answer::Empty => push_part(alloc, state, frame, source, operand),
-            Answer::Done(Completion::Abrupt(x)) => Ok(Next::Give(Completion::Abrupt(x))),
-            Answer::Done(Completion::Normal(x)) => {
-                let came = operated_one(alloc, op, x)?;
-                end_operated(alloc, state, came, None)
+    match state.stage() {
+        0 => state.begin_with(at, operand),
+        1 => match state.resume_value(operand)? {
+            Valued::Left(next) => Ok(next),
+            Valued::Value(x) => {
+                let came = operate_one(state.alloc(), op, &x)?;
+                match state.operated(came, PAID)? {
+                    Valued::Left(next) => Ok(next),
+                    Valued::Value(value) => Ok(state.give(value)),
+                }
             }
         },
-        _ => Ok(refused(state)),
+        _ => match state.pay_kept() {
+            Valued::Left(next) => Ok(next),
+            Valued::Value(value) => Ok(state.give(value)),
+        },
     }
 }
 
-/// The numbers before and after `++` or `--`, of the end of the target.
-fn numbers(op: UpdateOp, old: Option<Value>) -> Computed<Stepped>
-    ensures { computed_of stepped_of result ≡ spec.step_number op (value_in (option_of old)) }
+/// Whether an operator before an operand is built.
+fn is_prefix_built(op: UnaryOp) -> bool
+    ensures { result ≡ rows.is_prefix_built op }
 {
-    let old = value_or_undefined(old);
-    step_number(op, &old)
+    match op {
+        UnaryOp::Delete => false,
+        _ => true,
+    }
+}
+
+/// An operator before an operand; one that is not built throws after its charge.
+pub fn prefix(
+    state: &mut State,
+    at: usize,
+    op: UnaryOp,
+    operand: &Shared<Tree>,
+) -> Result<Next, AllocError>
+    ensures { IfOk result (λ next. StepsBy (prefix_at at op operand.now) state.old next state.new) }
+{
+    if is_prefix_built(op) {
+        unary(state, at, op, operand)
+    } else {
+        Ok(not_built(state, at))
+    }
 }
 
 /// `++` or `--` of a name (ECMA-262 13.4): the old value is made a number, and the new one is given to the name.
 pub fn update(
-    alloc: Global,
     state: &mut State,
-    frame: &mut Frame,
-    source: u32,
     at: usize,
     op: UpdateOp,
     target: &Shared<Tree>,
 ) -> Result<Next, AllocError>
-    ensures { IfOk result (λ next. StepsBy (update_at source 0 at op target.now) frame.old state.old next state.new) }
+    ensures { IfOk result (λ next. StepsBy (update_at at op target.now) state.old next state.new) }
 {
-    match frame.stage {
-        0 => {
-            if let Some(stop) = begin(state, source, at) {
-                return Ok(stop);
-            }
-            frame.stage = 1;
-            push_part(alloc, state, frame, source, target)
-        }
-        1 => match state.take_answer() {
-            Answer::Empty => push_part(alloc, state, frame, source, target),
-            Answer::Done(Completion::Abrupt(x)) => Ok(Next::Give(Completion::Abrupt(x))),
-            Answer::Done(Completion::Normal(old)) => match numbers(op, old) {
+    match state.stage() {
+        0 => state.begin_with(at, target),
+        _ => match state.resume_value(target)? {
+            Valued::Left(next) => Ok(next),
+            Valued::Value(old) => match step_number(op, &old) {
                 Computed::Is(n) => {
-                    let name = name_of(alloc, target.get())?;
-                    state.assign(&name, Value::Num(n.after))?;
-                    Ok(give(Value::Num(shown(op, n))))
+                    put(state, target, &Value::Num(n.after))?;
+                    Ok(state.give(Value::Num(shown(op, n))))
                 }
                 Computed::Stops(stop) => Ok(Next::Halt(StopName::Number(stop))),
-                Computed::Fails => Ok(throw()),
+                Computed::Fails => Ok(state.throw()),
             },
         },
-        _ => Ok(refused(state)),
     }
 }

@@ -1,5 +1,6 @@
 pub mod Language
-pub mod Rest
+pub mod Stages
+pub mod Worlds
+pub mod Stack
 pub mod Going
 pub mod Running
-pub mod Rules

@@ -1,28 +1,31 @@
 -- A run as contracts see it, and its steps.
-use Rattle.std.specs.Prelude.{◌≡◌, ℕ, List, [], ◌∷◌, Option, None, Some}
-use Rattle.sr_outside.specs.Writing.{AppendsPart}
+use Rattle.std.specs.Prelude.{◌≡◌, ℕ, ◌≤◌, suc, List, [], ◌∷◌, Option, None, Some}
 use Rattle.sr_ast.specs.declared.reading.Reading.{Reading}
 use Rattle.sr_ast.specs.declared.reading.SourceCode.{SourceCode}
-use Rattle.sr_model.specs.Values.{Text}
-use Rattle.sr_model.specs.World.{Printed}
+use Rattle.sr_model.specs.Values.{Text, Path, Name, root, same}
+use Rattle.sr_model.specs.Events.{Goal, Source, Event, Took}
+use Rattle.sr_model.specs.Realm.{Realm}
+use Rattle.sr_model.specs.World.{choose}
+use Rattle.sr_model.specs.Globals.{Holds}
+use Rattle.sr_conv.specs.Plain.{value_of}
+use Rattle.sr_worlds.specs.Evaluation.{ev}
+use Rattle.sr_worlds.specs.Live.{LiveRan, live}
+use Rattle.sr_worlds.specs.Run.{give, start}
 use Rattle.sr_state.specs.declared.frame.Frame.{Frame}
 use Rattle.sr_state.specs.declared.frame.Activity.TheVariants as activity
-use Rattle.sr_conv.specs.Plain.{value_of}
 use Rattle.sr_state.specs.declared.ends.Answer.{Answer}
 use Rattle.sr_state.specs.declared.ends.Answer.TheVariants as answer
 use Rattle.sr_state.specs.declared.ends.Completion.TheVariants as completion
 use Rattle.sr_state.specs.declared.ends.Abrupt.TheVariants as abrupt
-use Rattle.sr_state.specs.Held.{Held, Side, first}
+use Rattle.sr_state.specs.Held.{Held, Side, first, realm_in, answered}
 use Rattle.sr_machine.specs.declared.live.Ended.{Ended}
 use Rattle.sr_machine.specs.declared.live.Ended.TheVariants as ended
 use Rattle.sr_machine.specs.declared.live.Advance.{Advance}
 use Rattle.sr_machine.specs.declared.live.Advance.TheVariants as advance
 use Rattle.sr_machine.specs.declared.live.StopAt.{StopAt}
-use Rattle.sr_model.specs.Realm.{Realm}
-use Rattle.sr_model.specs.Globals.{Holds}
-use Rattle.sr_machine.specs.Language.{throw_report}
-use Rattle.sr_machine.specs.Rest.{Waiting}
-use Rattle.sr_machine.specs.Going.{line_of, IsStack, Goes, StopsBy}
+use Rattle.sr_machine.specs.Language.{throw_report, language, source_of}
+use Rattle.sr_machine.specs.Worlds.{Tapes}
+use Rattle.sr_machine.specs.Going.{Under, StopsBy}
 
 -- the state, and what ended the run
 pub record Running : Type 0 where
@@ -35,11 +38,23 @@ opened bound = record { held = first bound; over = None }
 
 -- a frame that begins a source
 abbrev pub source_frame : SourceCode → Frame
-source_frame x = record { activity = activity.Source 0 x; stage = 0; kept = []; calls = 0 }
+source_frame x = record { activity = activity.Source x; source = 0; stage = 0; calls = 0; value = None; list = [] }
 
 -- a run to which a source was given
 abbrev pub given : ℕ → SourceCode → Running
-given bound x = (let h = first bound in record { held = record h { frames = source_frame x ∷ [] }; over = None })
+given bound x = (let h = first bound in record { held = record h { top = source_frame x }; over = None })
+
+-- what the first realm does with a text, by the depth to which tasks may be nested; and the tapes while it does
+abbrev pub source_run : (Text → Reading) → ℕ → Goal → Name → Text → ℕ → LiveRan Holds
+source_run read bound goal name text n = give (language read) (ev (language read) (live (language read) bound) n) root (Source goal name text) (start (language read))
+
+abbrev pub source_tapes : Goal → Name → Text → Tapes
+source_tapes goal name text q = choose (same q root) (Took (Source goal name text) ∷ []) []
+
+-- a run that was given a text is what that comes to
+abbrev pub Begins : Type 0
+Begins = (read : Text → Reading) (bound : ℕ) (goal : Goal) (name : Name) (text : Text) →
+    (let r = given bound (source_of read text) in Under read bound (source_tapes goal name text) (source_run read bound goal name text) [] r.held)
 
 -- the answer after the end
 abbrev pub answer_of : Ended → Advance
@@ -58,18 +73,15 @@ Remembers advance.Memory over = over ≡ Some ended.Memory
 
 -- the start of the last tree whose charge was paid
 abbrev pub IsLastPlace : StopAt → Side → Type 0
-IsLastPlace s x = (let r = x.realm in let i = r.inner in let h = i.rest in let l = h.last in (s.source ≡ l.source) × (s.at ≡ l.at))
+IsLastPlace s x = (let r = realm_in x in let i = r.inner in let h = i.rest in let l = h.last in (s.source ≡ l.source) × (s.at ≡ l.at))
 
-module _ (read : Text → Reading) where
-  -- the run stopped
-  abbrev pub Stopped : StopAt → Held → Held → Type 0
-  Stopped s old new = StopsBy read s.name old new × IsLastPlace s new.side
+-- the run stopped
+abbrev pub Stopped : (Text → Reading) → StopAt → Held → Held → Type 0
+Stopped read s old new = StopsBy read s.name old new × IsLastPlace s new.side
 
-  -- a failing sink took a first part of the next line of the run
-  abbrev pub BreaksOff : Held → Option (List ℕ) → Option (List ℕ) → Type 0
-  BreaksOff old before after =
-      (tasks : Waiting) → IsStack read old tasks →
-      (text : Text) × (next : Held) × AppendsPart before after (line_of text) × Goes read old next (Printed text ∷ []) tasks
+-- nothing is under way
+abbrev pub AtRest : Held → Type 0
+AtRest h = (let f = h.top in f.activity ≡ activity.Idle)
 
 -- the report of the throw in which the source ended, in the realm as it is then
 abbrev pub thrown_of : Realm Holds → Answer → Option Text
@@ -82,8 +94,8 @@ thrown_of r (answer.Done (completion.Abrupt (abrupt.Continue l))) = None
 
 -- the report of the throw in which a run ended
 abbrev pub thrown_in : Held → Option Text
-thrown_in h = (let x = h.side in thrown_of x.realm h.answer)
+thrown_in h = thrown_of (realm_in h.side) h.answer
 
 -- after that was told
 abbrev pub told : Running → Running
-told r = (let h = r.held in record r { held = record h { answer = answer.Empty } })
+told r = (let h = r.held in record r { held = answered answer.Empty h })

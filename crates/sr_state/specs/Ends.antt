@@ -1,8 +1,7 @@
 -- The ends of parts, as the definitions have them.
-use Rattle.std.specs.Prelude.{◌≡◌, List, [], ◌∷◌}
+use Rattle.std.specs.Prelude.{◌≡◌}
 use Rattle.sr_conv.specs.Plain.{value_of, option_of, number_stop_of}
 use Rattle.sr_model.specs.Outcomes as model
-use Rattle.sr_model.specs.Tasks.{Item, Gave}
 use Rattle.sr_state.specs.declared.ends.Abrupt.{Abrupt}
 use Rattle.sr_state.specs.declared.ends.Abrupt.TheVariants as abrupt
 use Rattle.sr_state.specs.declared.ends.Completion.{Completion}
@@ -26,17 +25,10 @@ abbrev pub completion_of : Completion → model.Completion
 completion_of (completion.Normal v) = model.Normal (option_of v)
 completion_of (completion.Abrupt x) = model.Abrupt (abrupt_of x)
 
--- what an answer adds to the list that a row is given
-abbrev pub items_of : Answer → List Item
-items_of answer.Empty = []
-items_of (answer.Done o) = Gave (completion_of o) ∷ []
-
--- a step ended with this end
-abbrev pub GivesBy : Next → model.Completion → Type 0
-GivesBy (next.Give o) y = completion_of o ≡ y
-GivesBy next.Pushed y = ⊥
-GivesBy (next.Print text) y = ⊥
-GivesBy (next.Halt name) y = ⊥
+-- the answer is this end
+abbrev pub IsEnd : Answer → model.Completion → Type 0
+IsEnd (answer.Done o) y = completion_of o ≡ y
+IsEnd answer.Empty y = ⊥
 
 -- it is this listed stop
 abbrev pub IsStop : StopName → model.Stop → Type 0
@@ -50,6 +42,7 @@ IsStop (stop.Steps used cost) y = ⊥
 -- a step stopped the run by this stop
 abbrev pub HaltsBy : Next → model.Stop → Type 0
 HaltsBy (next.Halt name) y = IsStop name y
-HaltsBy next.Pushed y = ⊥
+HaltsBy next.Going y = ⊥
+HaltsBy next.Ended y = ⊥
 HaltsBy (next.Print text) y = ⊥
-HaltsBy (next.Give o) y = ⊥
+HaltsBy next.CutOff y = ⊥

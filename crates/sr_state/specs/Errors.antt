@@ -3,8 +3,7 @@ use Rattle.std.specs.Prelude.{ℕ, List, map, ◌++◌, codes}
 use Rattle.std.specs.Fmt.{decimal}
 use Rattle.sr_model.specs.Values.{Text, Object}
 use Rattle.sr_model.specs.Outcomes.{Abrupt, Throw}
-use Rattle.sr_model.specs.Tasks.{Give}
-use Rattle.sr_model.specs.Scripts.{changing}
+use Rattle.sr_model.specs.Scripts.{Give, Look, Change}
 use Rattle.sr_model.specs.Globals.{Error, error_made, next_object}
 use Rattle.sr_state.specs.declared.errors.ErrorName.{ErrorName}
 use Rattle.sr_state.specs.declared.errors.ErrorName.TheVariants as name
@@ -24,7 +23,7 @@ errors_of es = map error_of es
 
 -- an error is made and thrown
 abbrev pub throw_new : Error → Steps
-throw_new e got r = changing (error_made e) (Give (Abrupt (Throw (Object (next_object r))))) r
+throw_new e = Look (λ r. Change (error_made e) (Give (Abrupt (Throw (Object (next_object r))))))
 
 -- the error of a text that breaks a rule of the grammar, or an early error, at this place (ECMA-262 16.1.6 ParseScript)
 abbrev pub syntax_message : ℕ → Text

@@ -1,4 +1,6 @@
-ghost use Rattle.std.specs.Prelude.{◌≡◌, []};
+ghost use Rattle.std.specs.Prelude.{◌≡◌, None, []};
+ghost use Rattle.sr_state.specs.Held.{idle};
+ghost use Rattle.sr_state.specs.Parts.{tree_frame};
 
 use sqlite_items::Items;
 use sr_ast::{Code, SourceCode};
@@ -15,50 +17,59 @@ pub enum BuiltIn {
 /// What a frame carries out.
 #[derive(Drop)]
 pub enum Activity {
-    /// A tree of the source of this number.
-    Tree(u32, Code),
-    /// A source text; its number is 0 until it is accepted.
-    Source(u32, SourceCode),
-    /// A call of a built-in function, with the arguments as the values that are kept at first.
+    /// Nothing.
+    Idle,
+    /// A tree.
+    Tree(Code),
+    /// A source text.
+    Source(SourceCode),
+    /// A call of a built-in function, with the arguments as the list that is kept at first.
     BuiltIn(BuiltIn),
 }
 
-/// A task under way: how far it is, the values that it keeps, and the calls that are active.
+/// A task under way: how far it is, what it keeps, and the calls that are active.
 #[derive(Drop)]
 pub struct Frame {
     /// What it carries out.
     pub activity: Activity,
+    /// The number of its source; of a source that is not accepted yet 0.
+    pub source: u32,
     /// How far it is.
     pub stage: u32,
-    /// The values that it keeps.
-    pub kept: Items<Value>,
     /// The calls that are active.
     pub calls: u32,
+    /// A value that it keeps.
+    pub value: Option<Value>,
+    /// Further values that it keeps.
+    pub list: Items<Value>,
 }
 
 impl Frame {
-    /// The frame, taken out of its place. What then stands there is of no use.
-    pub fn take(&mut self, alloc: Global) -> Frame
-        ensures { result ≡ self.old }
-    {
-        let spent = Frame {
-            activity: Activity::BuiltIn(BuiltIn::Print),
-            stage: 0,
-            kept: Items::new(alloc),
-            calls: 0,
-        };
-        std::mem::replace(self, spent)
-    }
-
-    /// A frame that begins a tree.
-    pub fn fresh(alloc: Global, source: u32, tree: Code, calls: u32) -> Frame
-        ensures { result ≡ record { activity = Activity.Tree source tree; stage = 0; kept = []; calls = calls } }
+    /// A frame that carries nothing out.
+    pub fn idle(alloc: Global) -> Frame
+        ensures { result ≡ idle }
     {
         Frame {
-            activity: Activity::Tree(source, tree),
+            activity: Activity::Idle,
+            source: 0,
             stage: 0,
-            kept: Items::new(alloc),
+            calls: 0,
+            value: None,
+            list: Items::new(alloc),
+        }
+    }
+
+    /// A frame that begins a tree of this source.
+    pub fn of_tree(alloc: Global, source: u32, tree: Code, calls: u32) -> Frame
+        ensures { result ≡ tree_frame source tree calls }
+    {
+        Frame {
+            activity: Activity::Tree(tree),
+            source,
+            stage: 0,
             calls,
+            value: None,
+            list: Items::new(alloc),
         }
     }
 }

@@ -1,4 +1,5 @@
-//! The state of a run: the realm, the stack of frames, and the answer that waits for the frame on top.
+//! The state of a run, laid out for many realms: the realm that runs, the frame on top and those below it, and the calls by which
+//! the rows of all trees and functions go on.
 #![tactic(auto)]
 
 /// How parts and steps end.
@@ -9,10 +10,16 @@ mod errors;
 mod frame;
 /// The names of the global object.
 mod globals;
+/// Parts, payments and ends, as the rows need them.
+mod parts;
+/// A realm.
+mod realm;
 /// The state.
 mod state;
 
 pub use ends::{Abrupt, Answer, Charge, Completion, Leaving, Next, StopName};
 pub use errors::{ErrorName, ErrorObject, syntax_message};
 pub use frame::{Activity, BuiltIn, Frame};
-pub use state::State;
+pub use parts::{Resumed, Valued, value_or_undefined};
+pub use realm::{Kept, Link};
+pub use state::{Level, State};

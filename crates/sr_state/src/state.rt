@@ -1,74 +1,88 @@
-ghost use Rattle.std.specs.Prelude.{◌≡◌, ◌∷◌, [], suc, option_map, OnOk, IfOk, MatchOption};
+ghost use Rattle.std.specs.Prelude.{◌≡◌, ◌∷◌, ◌++◌, [], suc, Some, None, option_map, reverse, OnOk, IfOk, MatchOption};
 ghost use Rattle.sr_model.specs.Values.{Object};
 ghost use Rattle.sr_conv.specs.Plain.{value_of, option_of};
 ghost use Rattle.sr_model.specs.Globals.{assigned, accepted, error_made, error_in, global_value, next_object, next_source};
 ghost use Rattle.sr_state.specs.Errors.{name_text, error_of};
-ghost use Rattle.sr_state.specs.Held.{Charges, Begins, first, with_side, line_in, change_in};
+ghost use Rattle.sr_state.specs.Held.{Charges, Begins, first, idle, with_side, line_in, change_in, realm_in, cut_in, answered, topped, staged, keeping, listing, above, below, is_idle};
+ghost use Rattle.sr_state.specs.Step.{kept_of};
 
 use crate::ends::{Answer, Charge, Next, StopName};
 use crate::errors::{ErrorName, ErrorObject};
-use crate::frame::Frame;
-use crate::globals::Globals;
+use crate::frame::{Activity, Frame};
+use crate::realm::{Kept, Link};
 use sqlite_items::Items;
 use sr_ast::ScriptCode;
-use sr_tag::{Ref, Tag};
+use sr_tag::Path;
 use sr_text::Str;
 use sr_value::Value;
 use std::alloc::{AllocError, Global};
 use std::marker::Model;
 
-/// The state of a run. There is one realm yet, the first one.
+/// An event that waits for the reply of another realm.
+#[derive(Drop)]
+pub struct Level {
+    realm: usize,
+    frames: Items<Frame>,
+}
+
+impl Model for Level {
+    ghost use Rattle.std.specs.Prelude.{reverse};
+    ghost use Rattle.std.specs.Coded.{codes};
+    ghost use Rattle.sr_ast.specs.contracts.tree.Tree as kind;
+    ghost use Rattle.sr_state.specs.Held as held;
+
+    ghost Value = { held.Level };
+
+    ghost coded = { Prim.hlevel (codes, kind.the_row.coded) };
+
+    ghost view = { λ l. record { realm = l.realm; frames = reverse l.frames } };
+}
+
+/// The state of a run: the realm that runs, taken out of the table of all realms; that table, in which a blank stands in its place;
+/// what joins realms; the events that wait for a reply; and of the event that is under way the frame on top and those below it. The
+/// same state serves a run and a replay, which knows at how many own steps its next cut is.
 #[derive(Drop)]
 pub struct State {
-    globals: Globals,
-    sources: u32,
-    errors: Items<ErrorObject>,
-    last_source: u32,
-    last_at: usize,
-    lines: Items<Str>,
+    alloc: Global,
+    here: Kept,
+    place: usize,
+    others: Vec<Kept>,
+    links: Items<Link>,
+    below: Items<Level>,
     used: u64,
     bound: u64,
+    cut: Option<u64>,
     answer: Answer,
+    top: Frame,
     frames: Items<Frame>,
 }
 
 impl Model for State {
-    ghost use Rattle.std.specs.Prelude.{◌≤◌, reverse, []};
+    ghost use Rattle.std.specs.Prelude.{◌≤◌, ◌<◌, reverse, length, slice_set};
     ghost use Rattle.std.specs.Coded.{codes};
     ghost use Rattle.sr_ast.specs.contracts.tree.Tree as kind;
-    ghost use Rattle.sr_model.specs.Values.{root};
-    ghost use Rattle.sr_state.specs.Held.{Held};
-    ghost use Rattle.sr_state.specs.Errors.{errors_of};
+    ghost use Rattle.sr_state.specs.Held.{Held, blank};
 
     ghost Value = { Held };
 
     ghost coded = { Prim.hlevel (codes, kind.the_row.coded) };
 
     ghost view = { λ s. record {
-      side = record {
-        realm = record {
-          path = root;
-          inner = record {
-            exports = [];
-            jobs = [];
-            unsettled = [];
-            wrappers = 0;
-            children = 0;
-            imports = 0;
-            symbols = 0;
-            rest = record { globals = s.globals; sources = s.sources; errors = errors_of s.errors; last = record { source = s.last_source; at = s.last_at } };
-          };
-          lines = s.lines;
-          own = s.used;
-        };
-        used = s.used;
+      side = record { own = s.here; used = s.used };
+      outer = record {
+        here = s.place;
+        others = slice_set s.others.items s.place blank;
+        links = s.links;
+        below = reverse s.below;
+        bound = s.bound;
+        cut = s.cut;
       };
-      outer = record { bound = s.bound };
       answer = s.answer;
+      top = s.top;
       frames = reverse s.frames;
     } };
 
-    ghost invariant = { λ s. s.used ≤ s.bound };
+    ghost invariant = { λ s. (s.used ≤ s.bound) × (s.here.realm.own ≤ s.used) };
 }
 
 impl State {
@@ -78,94 +92,109 @@ impl State {
     pub fn new(alloc: Global, bound: u64) -> Result<State, AllocError>
         ensures { IfOk result (λ s. s ≡ first bound) }
     {
+        let mut others = Vec::new(alloc);
+        others.push(Kept::new(alloc, Path::root(alloc)?)?)?;
         Ok(State {
-            globals: Globals::new(alloc)?,
-            sources: 0,
-            errors: Items::new(alloc),
-            last_source: 0,
-            last_at: 0,
-            lines: Items::new(alloc),
+            alloc,
+            here: Kept::new(alloc, Path::root(alloc)?)?,
+            place: 0,
+            others,
+            links: Items::new(alloc),
+            below: Items::new(alloc),
             used: 0,
             bound,
+            cut: None,
             answer: Answer::Empty,
+            top: Frame::idle(alloc),
             frames: Items::new(alloc),
         })
     }
 
+    /// The allocator of the state.
+    pub fn alloc(&self) -> Global {
+        self.alloc
+    }
+
     /// The value of a name of the global object, shared.
     pub fn global(&self, name: &Str) -> Result<Option<Value>, AllocError>
-        ensures { IfOk result (λ v. option_of v ≡ global_value name.now self.now.side.realm) }
+        ensures { IfOk result (λ v. option_of v ≡ global_value name.now (realm_in self.now.side)) }
     {
-        self.globals.get(name)
+        self.here.global(name)
     }
 
     /// Accepts a source that declares these names by `var`, and answers its number.
     pub fn accept(&mut self, script: &ScriptCode) -> Result<u32, AllocError>
-        ensures number { IfOk result (λ n. n ≡ next_source self.old.side.realm) }
+        ensures number { IfOk result (λ n. n ≡ next_source (realm_in self.old.side)) }
         ensures accepted { OnOk result (self.new ≡ with_side self.old (change_in (accepted script.now.names) self.old.side)) }
     {
-        let Some(number) = self.sources.checked_add(1) else {
-            return Err(AllocError);
-        };
-        self.globals.declare_all(script.names())?;
-        self.sources = number;
-        Ok(number)
+        self.here.accept(script)
     }
 
     /// Gives a name of the global object a value.
     pub fn assign(&mut self, name: &Str, value: Value) -> Result<(), AllocError>
         ensures { OnOk result (self.new ≡ with_side self.old (change_in (assigned name.now (value_of value)) self.old.side)) }
     {
-        self.globals.set(name, value)
+        self.here.assign(name, value)
     }
 
     /// Makes an error object, and answers its value (ECMA-262 20.5.1.1).
     pub fn make_error(&mut self, name: ErrorName, message: Str) -> Result<Value, AllocError>
-        ensures value { IfOk result (λ v. value_of v ≡ Object (next_object self.old.side.realm)) }
+        ensures value { IfOk result (λ v. value_of v ≡ Object (next_object (realm_in self.old.side))) }
         ensures made { OnOk result (self.new ≡ with_side self.old (change_in (error_made (record { name = name_text name; message = message })) self.old.side)) }
     {
-        let place = self.errors.len();
-        self.errors.push(ErrorObject { name, message })?;
-        Ok(Value::Obj(Ref::at(Tag { number: 0 }, place)))
+        self.here.make_error(name, message)
     }
 
     /// The error object at a place, counted from 0: the one that is numbered from 1 by one more.
     pub fn error(&self, place: usize) -> Option<&ErrorObject>
-        ensures { option_map (λ e. error_of e.now) result ≡ error_in self.now.side.realm (suc place) }
+        ensures { option_map (λ e. error_of e.now) result ≡ error_in (realm_in self.now.side) (suc place) }
     {
-        self.errors.get(place)
+        self.here.error(place)
     }
 
     /// Prints a line, as far as the realm remembers it.
     pub fn add_line(&mut self, line: Str) -> Result<(), AllocError>
         ensures { OnOk result (self.new ≡ with_side self.old (line_in line self.old.side)) }
     {
-        self.lines.push(line)
+        self.here.add_line(line)
     }
 
-    /// Pays steps, where the bound has room for them.
+    /// Whether a cut is next here, which only a replay knows of.
+    fn is_cut(&self) -> bool
+        ensures { result ≡ cut_in self.now.outer self.now.side }
+    {
+        match self.cut {
+            None => false,
+            Some(steps) => steps == self.here.steps(),
+        }
+    }
+
+    /// Pays steps, where no cut is next and the bound has room for them.
     pub fn charge(&mut self, cost: u64) -> Charge
         ensures { Charges cost self.old result self.new }
     {
-        if cost <= self.bound - self.used {
+        if self.is_cut() {
+            Charge::Cut
+        } else if cost <= self.bound - self.used {
             self.used += cost;
+            self.here.pay(cost);
             Charge::Taken
         } else {
             Charge::Bound
         }
     }
 
-    /// Pays the step of a tree that begins at this place of a source, as its evaluation begins.
-    pub fn begin(&mut self, source: u32, at: usize) -> Charge
+    /// Pays the step of a tree that begins at this place of a source, counted in code units, as its evaluation begins.
+    pub fn charge_tree(&mut self, source: u32, at: usize) -> Charge
         ensures { Begins source at self.old result self.new }
     {
-        if self.used < self.bound {
-            self.used += 1;
-            self.last_source = source;
-            self.last_at = at;
-            Charge::Taken
-        } else {
-            Charge::Bound
+        match self.charge(1) {
+            Charge::Taken => {
+                self.here.mark(source, at);
+                Charge::Taken
+            }
+            Charge::Bound => Charge::Bound,
+            Charge::Cut => Charge::Cut,
         }
     }
 
@@ -178,16 +207,16 @@ impl State {
 
     /// The source of the last tree whose charge was paid, and 0 where none has paid.
     pub fn last_source(&self) -> u32
-        ensures { result ≡ (let r = self.now.side.realm in let i = r.inner in let h = i.rest in let l = h.last in l.source) }
+        ensures { result ≡ (let r = realm_in self.now.side in let i = r.inner in let h = i.rest in let l = h.last in l.source) }
     {
-        self.last_source
+        self.here.last_source()
     }
 
     /// The start of that tree.
     pub fn last_at(&self) -> usize
-        ensures { result ≡ (let r = self.now.side.realm in let i = r.inner in let h = i.rest in let l = h.last in l.at) }
+        ensures { result ≡ (let r = realm_in self.now.side in let i = r.inner in let h = i.rest in let l = h.last in l.at) }
     {
-        self.last_at
+        self.here.last_at()
     }
 
     /// What the frame on top is given.
@@ -200,47 +229,101 @@ impl State {
     /// What the frame on top is given, which is taken away.
     pub fn take_answer(&mut self) -> Answer
         ensures answer { result ≡ self.old.answer }
-        ensures rest { self.new ≡ (let h = self.old in record h { answer = Answer.Empty }) }
+        ensures rest { self.new ≡ answered Answer.Empty self.old }
     {
         std::mem::replace(&mut self.answer, Answer::Empty)
     }
 
-    /// Takes away what the frame on top is given, where it is given something.
-    pub fn clear_answer(&mut self)
-        ensures { self.new ≡ (let h = self.old in record h { answer = Answer.Empty }) }
-    {
-        match &self.answer {
-            Answer::Empty => (),
-            Answer::Done(_) => self.answer = Answer::Empty,
-        }
-    }
-
     /// Gives the frame on top an answer.
     pub fn put_answer(&mut self, answer: Answer)
-        ensures { self.new ≡ (let h = self.old in record h { answer = answer }) }
+        ensures { self.new ≡ answered answer self.old }
     {
         self.answer = answer;
     }
 
-    /// Puts a frame on top.
+    /// The frame on top.
+    pub fn top(&self) -> &Frame
+        ensures { result.now ≡ (let h = self.now in h.top) }
+    {
+        &self.top
+    }
+
+    /// How far the frame on top is.
+    pub fn stage(&self) -> u32
+        ensures { result ≡ self.now.top.stage }
+    {
+        self.top.stage
+    }
+
+    /// The frame on top is at another stage.
+    pub fn set_stage(&mut self, stage: u32)
+        ensures { self.new ≡ staged stage self.old }
+    {
+        self.top.stage = stage;
+    }
+
+    /// The frame on top keeps this value.
+    pub fn keep(&mut self, value: Value)
+        ensures { self.new ≡ keeping (Some value) self.old }
+    {
+        self.top.value = Some(value);
+    }
+
+    /// The value that the frame on top keeps, which is taken away.
+    pub fn take_kept(&mut self) -> Option<Value>
+        ensures value { result ≡ self.old.top.value }
+        ensures rest { self.new ≡ keeping None self.old }
+    {
+        self.top.value.take()
+    }
+
+    /// The frame on top keeps a value more in its list.
+    pub fn keep_more(&mut self, value: Value) -> Result<(), AllocError>
+        ensures { OnOk result (self.new ≡ listing (self.old.top.list ++ value ∷ []) self.old) }
+    {
+        self.top.list.push(value)
+    }
+
+    /// The list of the frame on top, which is taken away.
+    pub fn take_list(&mut self) -> Items<Value>
+        ensures list { result ≡ self.old.top.list }
+        ensures rest { self.new ≡ listing [] self.old }
+    {
+        std::mem::replace(&mut self.top.list, Items::new(self.alloc))
+    }
+
+    /// Another frame is on top, in place of the one that is there.
+    pub fn replace_top(&mut self, frame: Frame)
+        ensures { self.new ≡ topped frame self.old }
+    {
+        self.top = frame;
+    }
+
+    /// A frame is put above the one on top.
     pub fn push(&mut self, frame: Frame) -> Result<(), AllocError>
-        ensures { OnOk result (self.new ≡ (let h = self.old in record h { frames = frame ∷ h.frames })) }
+        ensures { OnOk result (self.new ≡ above frame self.old) }
     {
-        self.frames.push(frame)
+        let waiting = std::mem::replace(&mut self.top, frame);
+        self.frames.push(waiting)
     }
 
-    /// Puts a frame back on top. What then stands in its place is of no use. Steps are given their frame by reference, since a
-    /// move costs time in each function that it goes through; it is moved here alone.
-    pub fn put_back(&mut self, alloc: Global, frame: &mut Frame) -> Result<(), AllocError>
-        ensures { OnOk result (self.new ≡ (let h = self.old in record h { frames = frame.old ∷ h.frames })) }
+    /// The frame on top is taken away; where none is below it an idle one stands there.
+    pub fn pop(&mut self)
+        ensures { self.new ≡ (let h = self.old in below h.frames h) }
     {
-        self.frames.push(frame.take(alloc))
+        self.top = match self.frames.pop() {
+            Some(frame) => frame,
+            None => Frame::idle(self.alloc),
+        };
     }
 
-    /// Takes the frame on top away.
-    pub fn pop(&mut self) -> Option<Frame>
-        ensures { MatchOption result ((self.old.frames ≡ []) × (self.new ≡ self.old)) (λ top. (self.old ≡ (let h = self.new in record h { frames = top ∷ h.frames }))) }
+    /// Whether nothing is under way.
+    pub fn is_idle(&self) -> bool
+        ensures { result ≡ is_idle self.now.top.activity }
     {
-        self.frames.pop()
+        match &self.top.activity {
+            Activity::Idle => true,
+            Activity::Tree(_) | Activity::Source(_) | Activity::BuiltIn(_) => false,
+        }
     }
 }

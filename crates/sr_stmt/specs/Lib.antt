@@ -1,5 +1,2 @@
-pub mod Lists
 pub mod Rows
-pub mod At
-pub mod Declared
-pub mod Scripts
+pub mod Stages

@@ -1,19 +1,21 @@
--- The rows of the statements (ECMA-262 14) and of a script (16.1): what the evaluation of each does, step by step.
-use Rattle.std.specs.Prelude.{ℕ, ◌/◌, List, [], ◌∷◌, Option, None, Some}
+-- The rows of the statements (ECMA-262 14) and of a script (16.1): what the evaluation of each does, step by step, with its charge.
+use Rattle.std.specs.Prelude.{ℕ, ◌/◌, Bool, true, false, List, [], ◌∷◌, Option, None, Some}
 use Rattle.sr_ast.specs.declared.tree.Tree.{Tree}
 use Rattle.sr_ast.specs.declared.tree.Declaration.{Declaration, out-Declaration}
+use Rattle.sr_ast.specs.declared.tree.Element.TheOpen as layer
+use Rattle.sr_ast.specs.Layer.{Layer}
 use Rattle.sr_ast.specs.Script.{Script}
 use Rattle.sr_ast.specs.declared.reading.Reading.{Reading}
 use Rattle.sr_ast.specs.declared.reading.Reading.TheVariants as reading
 use Rattle.sr_ast.specs.declared.reading.SourceCode.{SourceCode}
 use Rattle.sr_ast.specs.declared.refused.Refused.TheVariants as refused
 use Rattle.sr_model.specs.Values.{Text, Value, Simple, Undefined}
-use Rattle.sr_model.specs.Outcomes.{Normal, Abrupt, Leave, Unsupported, SyntaxDepth}
-use Rattle.sr_model.specs.Tasks.{Gave, Paid, Queued, Brought, Replied, Kept, Run, Part, Give, Turned}
-use Rattle.sr_model.specs.Scripts.{onward, give, halt, charge, pay, changed}
-use Rattle.sr_model.specs.Globals.{Holds, assigned, accepted, next_source, either}
+use Rattle.sr_model.specs.Outcomes.{Normal, Unsupported, SyntaxDepth}
+use Rattle.sr_model.specs.Tasks.{Run, Operate}
+use Rattle.sr_model.specs.Scripts.{Give, Halt, Look, Change, Become, Pay, pay}
+use Rattle.sr_model.specs.Globals.{assigned, accepted, next_source, either}
 use Rattle.sr_conv.specs.Conversions.{to_boolean}
-use Rattle.sr_state.specs.Work.{Work, Steps}
+use Rattle.sr_state.specs.Work.{Steps, Place, Test, Body, Update, Loop, Operation, Repeat}
 use Rattle.sr_state.specs.Errors.{throw_syntax_error}
 use Rattle.sr_state.specs.Trees.{value_in, give_value, begin, evaluated, valued}
 
@@ -21,18 +23,6 @@ use Rattle.sr_state.specs.Trees.{value_in, give_value, begin, evaluated, valued}
 abbrev pub update_empty : Option Value → Option Value → Option Value
 update_empty None before = before
 update_empty (Some v) before = Some v
-
--- where a loop is
-pub data Place : Type 0 where
-  Test : Place
-  Body : Place
-  Update : Place
-
--- the parts of a loop: the condition and the expression after each turn, where there are such, and the body
-pub record Loop : Type 0 where
-  pub test : Option Tree
-  pub update : Option Tree
-  pub body : Tree
 
 -- a condition that is left out holds
 abbrev pub at_test : Option Tree → Place
@@ -44,28 +34,27 @@ abbrev pub after_body : Option Tree → Option Tree → Place
 after_body None test = at_test test
 after_body (Some t) test = Update
 
--- the tree that is evaluated there
+-- the tree that is evaluated there; no loop is at a place that it does not have
 abbrev pub tree_or : Option Tree → Tree → Tree
 tree_or None body = body
 tree_or (Some t) body = t
 
-abbrev pub tree_there : Loop → Place → Tree
-tree_there l Test = tree_or l.test l.body
-tree_there l Body = l.body
-tree_there l Update = tree_or l.update l.body
+-- the value of a loop after a turn, by how its body ended and the value before
+abbrev pub value_after : Option Value → Value → Value
+value_after w v = value_in (update_empty w (Some v))
 
 module _ (s e : ℕ) where
   -- 14.5: the value of the expression
   abbrev pub expression : ℕ → Tree → Steps
-  expression at t = begin s e at (evaluated s e t (λ v. give (Normal v)))
+  expression at t = begin s e at (Become (Run s e t))
 
   -- 14.3.2: the declarations in order. One without a value does nothing, since the name is declared before the script runs
   abbrev pub declare_one : Text → Option Tree → Steps → Steps
   declare_one x None k = k
-  declare_one x (Some t) k = valued s e t (λ v. changed (assigned x v) k)
+  declare_one x (Some t) k = valued s e t (λ v. Change (assigned x v) k)
 
   abbrev pub declare : List Declaration → Steps
-  declare [] = give (Normal None)
+  declare [] = Give (Normal None)
   declare (d ∷ ds) = (let o = out-Declaration d in declare_one o.name o.value (declare ds))
 
   abbrev pub variables : ℕ → List Declaration → Steps
@@ -73,7 +62,7 @@ module _ (s e : ℕ) where
 
   -- 14.2.2: the statements in order. Their value is that of the last one that has a value
   abbrev pub statements : List Tree → Option Value → Steps
-  statements [] v = give (Normal v)
+  statements [] v = Give (Normal v)
   statements (t ∷ ts) v = evaluated s e t (λ w. statements ts (update_empty w v))
 
   abbrev pub block : ℕ → List Tree → Steps
@@ -81,29 +70,33 @@ module _ (s e : ℕ) where
 
   -- 14.4
   abbrev pub empty : ℕ → Steps
-  empty at = begin s e at (give (Normal None))
+  empty at = begin s e at (Give (Normal None))
 
   -- 14.6.2: the statement that is chosen; its empty value counts as undefined
   abbrev pub branch : Option Tree → Steps
   branch None = give_value (Simple Undefined)
-  branch (Some t) = evaluated s e t (λ v. give_value (value_in v))
+  branch (Some t) = valued s e t give_value
 
-  abbrev pub choice : Tree → Tree → Option Tree → Steps
-  choice c a b = valued s e c (λ x. either (to_boolean x) (branch (Some a)) (branch b))
+  abbrev pub chosen : Tree → Option Tree → Value → Steps
+  chosen a b x = either (to_boolean x) (branch (Some a)) (branch b)
 
-  -- 14.7.2 to 14.7.4: a loop that is at a place, with the value so far
+  abbrev pub choice : ℕ → Tree → Tree → Option Tree → Steps
+  choice at c a b = begin s e at (valued s e c (chosen a b))
+
+  -- 14.7.2 to 14.7.4: a loop that is at a place, with the value so far. After a turn it goes on as a task of its own
+  abbrev pub again : Loop → Place → Value → Steps
+  again l place v = Become (Operate (Repeat s e l place v))
+
+  abbrev pub turn : Loop → Value → Steps
+  turn l v = evaluated s e l.body (λ w. again l (after_body l.update l.test) (value_after w v))
+
+  abbrev pub tested : Loop → Value → Value → Steps
+  tested l v x = either (to_boolean x) (turn l v) (give_value v)
+
   abbrev pub loop : Loop → Place → Value → Steps
-  loop l place v [] r = onward (Part (Run s e (tree_there l place))) r
-  loop l Test v (Gave (Normal x) ∷ got) r = either (to_boolean (value_in x)) (loop l Body v got r) (onward (Give (Normal (Some v))) r)
-  loop l Body v (Gave (Normal x) ∷ got) r = loop l (after_body l.update l.test) (value_in (update_empty x (Some v))) got r
-  loop l Update v (Gave (Normal x) ∷ got) r = loop l (at_test l.test) v got r
-  loop l place v (Gave (Abrupt x) ∷ got) r = onward (Give (Abrupt x)) r
-  loop l place v (Gave (Leave x) ∷ got) r = onward (Give (Leave x)) r
-  loop l place v (Paid ∷ got) r = loop l place v got r
-  loop l place v (Queued ∷ got) r = loop l place v got r
-  loop l place v (Brought x ∷ got) r = loop l place v got r
-  loop l place v (Replied x ∷ got) r = loop l place v got r
-  loop l place v (Kept n ∷ got) r = loop l place v got r
+  loop l Test v = valued s e (tree_or l.test l.body) (tested l v)
+  loop l Body v = turn l v
+  loop l Update v = evaluated s e (tree_or l.update l.body) (λ w. again l (at_test l.test) v)
 
   -- `do`: the body comes first
   abbrev pub do_loop : ℕ → Tree → Tree → Steps
@@ -114,39 +107,58 @@ module _ (s e : ℕ) where
   while_loop at test body = begin s e at (loop (record { test = Some test; update = None; body = body }) Test (Simple Undefined))
 
   -- `for`: what comes first, and the loop
-  abbrev pub for_turns : Option Tree → Option Tree → Tree → Steps
-  for_turns test update body = loop (record { test = test; update = update; body = body }) (at_test test) (Simple Undefined)
-
   abbrev pub for_first : Option Tree → Steps → Steps
   for_first None k = k
   for_first (Some t) k = evaluated s e t (λ v. k)
 
-  abbrev pub for_loop : ℕ → Option Tree → Option Tree → Option Tree → Tree → Steps
-  for_loop at first test update body = begin s e at (for_first first (for_turns test update body))
+  abbrev pub for_loop : ℕ → Option Tree → Loop → Steps
+  for_loop at first l = begin s e at (for_first first (loop l (at_test l.test) (Simple Undefined)))
 
--- 16.1.7: the names are declared, and the statements evaluated. The number of the source is kept
-abbrev pub kept_turn : ℕ → Turned Work Holds → Turned Work Holds
-kept_turn n t = record t { keeps = n ∷ t.keeps }
+-- a loop as a task
+abbrev pub operation : Operation → Steps
+operation (Repeat s e l place v) = loop s e l place v
 
+-- whether a tree is a statement that is built. All other trees go by the rows of the expressions, which say what is not built
+abbrev pub is_statement : Layer → Bool
+is_statement (layer.Expression t) = true
+is_statement (layer.Directive t) = true
+is_statement (layer.Var ds) = true
+is_statement (layer.Block ts) = true
+is_statement layer.Empty = true
+is_statement (layer.If c a b) = true
+is_statement (layer.Do body test) = true
+is_statement (layer.While test body) = true
+is_statement (layer.For first test update body) = true
+is_statement l = false
+
+-- the table of the statements, by kind. A directive is evaluated as any expression (14.5). What is no statement that is built has no row
+-- here
+abbrev pub statement : ℕ → ℕ → ℕ → Layer → Steps
+statement s e at (layer.Expression t) = expression s e at t
+statement s e at (layer.Directive t) = expression s e at t
+statement s e at (layer.Var ds) = variables s e at ds
+statement s e at (layer.Block ts) = block s e at ts
+statement s e at layer.Empty = empty s e at
+statement s e at (layer.If c a b) = choice s e at c a b
+statement s e at (layer.Do body test) = do_loop s e at body test
+statement s e at (layer.While test body) = while_loop s e at test body
+statement s e at (layer.For first test update body) = for_loop s e at first (record { test = test; update = update; body = body })
+statement s e at l = empty s e at
+
+-- 16.1.7: the names are declared, and the statements evaluated
 abbrev pub accept : Script → Steps
-accept x [] r = (let n = next_source r in kept_turn n (statements n 0 x.body None [] (record r { inner = accepted x.names r.inner })))
-accept x (Kept n ∷ got) r = statements n 0 x.body None got r
-accept x (Gave o ∷ got) r = accept x got r
-accept x (Paid ∷ got) r = accept x got r
-accept x (Queued ∷ got) r = accept x got r
-accept x (Brought o ∷ got) r = accept x got r
-accept x (Replied o ∷ got) r = accept x got r
+accept x = Look (λ r. Change (accepted x.names) (statements (next_source r) 0 x.body None))
 
 -- 16.1.6: a text that is no script ends by a SyntaxError, or by a stop
 abbrev pub read_text : Reading → Steps
 read_text (reading.Script x) = accept x
 read_text (reading.Refused (refused.Syntax at)) = throw_syntax_error at
-read_text (reading.Refused (refused.Unsupported marker at)) = halt (Unsupported marker at)
-read_text (reading.Refused refused.TooDeep) = halt SyntaxDepth
+read_text (reading.Refused (refused.Unsupported marker at)) = Halt (Unsupported marker at)
+read_text (reading.Refused refused.TooDeep) = Halt SyntaxDepth
 
 -- a source is taken: a step for the event, one for each 256 code units of its text before it is read, and what it is
 abbrev pub read_source : SourceCode → Steps
 read_source x = pay (x.units / 256) (read_text x.reading)
 
 abbrev pub source : SourceCode → Steps
-source x = charge 1 (read_source x)
+source x = Pay 0 (read_source x)

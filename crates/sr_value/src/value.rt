@@ -6,7 +6,7 @@ use sr_num::Num;
 use sr_tag::{ObjK, Ref};
 use sr_text::Str;
 
-/// A value of the language (ECMA-262 6.1). A clone shares the texts and the path, and takes no memory.
+/// A value of the language (ECMA-262 6.1), of at most 24 bytes. A clone shares the texts and the path, and takes no memory.
 #[derive(Clone, Debug, Drop, PartialEq, Eq, Hash)]
 pub enum Value {
     Undefined,
@@ -18,6 +18,8 @@ pub enum Value {
     /// An object, by a reference to its record. The value alone does not say that the record is there.
     Obj(Ref<ObjK>),
 }
+
+const _: () = prove!(size_of::<Value>() <= 24);
 
 /// The key of a property (ECMA-262 6.1.7): a text or a symbol.
 #[derive(Clone, Debug, Drop, PartialEq, Eq, Hash)]

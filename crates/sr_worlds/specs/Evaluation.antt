@@ -1,27 +1,30 @@
--- The one recursion over the rows of a language, over any outside.
-use Rattle.std.specs.Prelude.{ℕ, zero, suc, List, [], ◌∷◌, ◌++◌}
-use Rattle.sr_model.specs.Outcomes.{Completion, Stop}
-use Rattle.sr_model.specs.Ports.{Port}
+-- The one recursion over the scripts of a language, over any outside.
+use Rattle.std.specs.Prelude.{ℕ, zero, suc}
+use Rattle.sr_model.specs.Values.{Text, Name, Crossing, Passed}
+use Rattle.sr_model.specs.Outcomes.{Outcome, Completion, Stop}
+use Rattle.sr_model.specs.Events.{Answer}
+use Rattle.sr_model.specs.Ports.{Request}
 use Rattle.sr_model.specs.Realm.{Inner, Realm}
-use Rattle.sr_model.specs.Tasks.{Item, Gave, Coming, Part, Use, Give, Halt, kept_items, Language}
+use Rattle.sr_model.specs.Scripts.{Script, Give, Halt, Look, Change, Part, Become, Pay, Enter, Line, Ticket, NewRealm, Tell, Load, Ask, Language}
 
--- what evaluation comes to, from states S with ends E: how the task ended, with the uses of rows that are left; or an end of all
-pub data Ran (S E : Type 0) : Type 0 where
-  Done : S → Completion → ℕ → Ran S E
-  Over : S → E → Ran S E
+-- what evaluation comes to, from states S with ends E: a value, as how a task ended; or an end of all
+pub data Ran (S E A : Type 0) : Type 0 where
+  Done : S → A → Ran S E A
+  Over : S → E → Ran S E A
 
 -- an end of all ends what follows
-abbrev pub then_do : {S E : Type 0} → Ran S E → (S → Completion → ℕ → Ran S E) → Ran S E
-then_do (Done s o m) go = go s o m
+abbrev pub then_do : {S E A B : Type 0} → Ran S E A → (S → A → Ran S E B) → Ran S E B
+then_do (Done s x) go = go s x
 then_do (Over s e) go = Over s e
 
--- evaluates a task that was given so much already, with so many uses of rows
-abbrev pub Evaluator : Type 0 → Type 0 → Type 0 → Type 0 → Type 0
-Evaluator C S E T = ℕ → C → S → T → List Item → Ran S E
+-- the last state, whatever the end
+abbrev pub state_of : {S E A : Type 0} → Ran S E A → S
+state_of (Done s x) = s
+state_of (Over s e) = s
 
--- what follows the answer to a port
-abbrev pub Following : Type 0 → Type 0 → Type 0 → Type 0
-Following C S E = C → S → Item → ℕ → Ran S E
+-- evaluates a task
+abbrev pub Evaluator : Type 0 → Type 0 → Type 0 → Type 0 → Type 0
+Evaluator C S E T = C → S → T → Ran S E Completion
 
 -- what stands around a realm whose tasks are evaluated. A context is that of one task and ends with it
 pub record Outside (T R : Type 0) : Type 1 where
@@ -31,29 +34,40 @@ pub record Outside (T R : Type 0) : Type 1 where
   pub realm : Context → State → Realm R
   pub put : Context → Inner R → State → State
   pub halt : Context → Stop → End
-  pub spent : Context → End  -- no use of a row is left
-  pub answer : ℕ → Evaluator Context State End T → ℕ → Port → Context → State → Following Context State End → Ran State End
+  pub spent : Context → End  -- tasks are nested too deep
+  pub pay : ℕ → Context → State → Ran State End (Unit {0})
+  pub enter : Context → State → Ran State End (Unit {0})
+  pub deeper : Context → Context  -- with one more active call
+  pub line : Text → Context → State → State
+  pub ticket : Context → State → State
+  pub birth : Context → State → State
+  pub tell : ℕ → Outcome Passed → Context → State → State
+  pub load : Name → Context → State → Ran State End Answer
+  pub ask : Evaluator Context State End T → Request → Context → State → Ran State End (Outcome Crossing)
 
 module _ {T R : Type 0} (l : Language T R) (o : Outside T R) where
-  -- what follows an answer of this outside
-  abbrev pub Go : Type 0
-  Go = Following o.Context o.State o.End
-
   -- what evaluates tasks in this outside
   abbrev pub More : Type 0
   More = Evaluator o.Context o.State o.End T
 
-  -- what follows a turn of a row: its end, a part, or a port that the outside answers. `more` evaluates, at most d deep
-  abbrev pub follow : ℕ → More → ℕ → T → List Item → o.Context → o.State → Coming T → Ran o.State o.End
-  follow d more m task got c s (Give x) = Done s x m
-  follow d more m task got c s (Halt x) = Over s (o.halt c x)
-  follow d more m task got c s (Part part) = then_do (more m c s part []) (λ s' x m'. more m' c s' task (got ++ Gave x ∷ []))
-  follow d more m task got c s (Use port) = o.answer d more m port c s (λ c' s' i m'. more m' c' s' task (got ++ i ∷ []))
+  -- follows a script to its end; more evaluates its parts
+  abbrev pub follow : More → o.Context → o.State → Script T R → Ran o.State o.End Completion
+  follow more c s (Give x) = Done s x
+  follow more c s (Halt x) = Over s (o.halt c x)
+  follow more c s (Look f) = follow more c s (f (o.realm c s))
+  follow more c s (Change f k) = (let r = o.realm c s in follow more c (o.put c (f r.inner) s) k)
+  follow more c s (Part t k) = then_do (more c s t) (λ s' x. follow more c s' (k x))
+  follow more c s (Become t) = more c s t
+  follow more c s (Pay x k) = then_do (o.pay x c s) (λ s' u. follow more c s' k)
+  follow more c s (Enter k) = then_do (o.enter c s) (λ s' u. follow more (o.deeper c) s' k)
+  follow more c s (Line text k) = follow more c (o.line text c s) k
+  follow more c s (Ticket k) = follow more c (o.ticket c s) k
+  follow more c s (NewRealm k) = follow more c (o.birth c s) k
+  follow more c s (Tell n x k) = follow more c (o.tell n x c s) k
+  follow more c s (Load name k) = then_do (o.load name c s) (λ s' x. follow more c s' (k x))
+  follow more c s (Ask x k) = then_do (o.ask more x c s) (λ s' y. follow more c s' (k y))
 
-  -- evaluates at most d deep with at most m uses of rows. The depth is there for the recursion alone
+  -- evaluates a task, with parts nested at most d deep
   abbrev pub ev : ℕ → More
-  ev zero m c s task got = Over s (o.spent c)
-  ev (suc d) zero c s task got = Over s (o.spent c)
-  ev (suc d) (suc m) c s task got =
-      let t = l.row task got (o.realm c s) in
-      follow d (ev d) m task (got ++ kept_items t.keeps) c (o.put c t.inner s) t.next
+  ev zero c s t = Over s (o.spent c)
+  ev (suc d) c s t = follow (ev d) c s (l.row t)

@@ -1,20 +1,20 @@
 -- What the laws say.
-use Rattle.std.specs.Prelude.{ℕ, ◌+◌, ◌≤◌, ◌<◌, ◌≡◌, List, Bool, true, false, All}
+use Rattle.std.specs.Prelude.{ℕ, ◌≤◌, ◌≡◌, List, ◌++◌, Bool, true, false, All}
 use Rattle.sr_model.specs.Values.{Path, child, Kin}
 use Rattle.sr_model.specs.Events.{Event}
-use Rattle.sr_model.specs.Tasks.{Language}
-use Rattle.sr_model.specs.World.{Link, Pending, World}
+use Rattle.sr_model.specs.Scripts.{Language}
+use Rattle.sr_model.specs.World.{Link, Pending, Write, World}
 use Rattle.sr_worlds.specs.Evaluation.{Ran, Done, Over}
-use Rattle.sr_worlds.specs.Live.{Why, Stopped, Steps, Open, Broken, Short, LiveEnd, LiveRan}
-use Rattle.sr_worlds.specs.Run.{realm_of, tape_of}
+use Rattle.sr_worlds.specs.Live.{Why, Stopped, Steps, Open, Broken, Short, LiveEnd, LiveReach, LiveRan}
+use Rattle.sr_worlds.specs.Run.{realm_of, tape_of, world_of}
 use Rattle.sr_worlds.specs.Solo.{SoloEnd, CutOff, Halted, Bound, Unfit, Spent}
 use Rattle.sr_worlds.specs.Replay.{Verdict, Fits, Misfit, Bounded, Unknown, replay}
 
--- with every large enough count of rows, the replay of the tape has this verdict
+-- with every large enough depth, the replay of the tape has this verdict
 abbrev pub Replays : {T R : Type 0} → Language T R → ℕ → Path → List Event → Verdict R → Type 0
 Replays l bound p tape v = (least : ℕ) × ((n : ℕ) → least ≤ n → replay l bound n p tape ≡ v)
 
--- it is no end of a run where answers or uses of rows were missing
+-- it is no end of a run where answers or depth were missing
 abbrev pub Ends : Why → Type 0
 Ends (Stopped x) = Unit {0}
 Ends (Steps x) = Unit {0}
@@ -24,7 +24,7 @@ Ends Short = ⊥
 
 -- a run has come to its end: nothing is left to do, or it stopped
 abbrev pub Ended : {R : Type 0} → LiveRan R → Type 0
-Ended (Done w o m) = Unit {0}
+Ended (Done w o) = Unit {0}
 Ended (Over w e) = Ends e.why
 
 -- realm p, as the run leaves it, is what the replay of its tape gives
@@ -35,22 +35,17 @@ Isolated l bound p r = Ended r → Replays l bound p (tape_of p r) (Fits (realm_
 abbrev pub Alike : {R : Type 0} → Path → LiveRan R → LiveRan R → Type 0
 Alike p r r' = Ended r → Ended r' → tape_of p r ≡ tape_of p r' → realm_of p r ≡ realm_of p r'
 
--- where it ended, fewer uses of rows are left
-abbrev pub Leaves : {S E : Type 0} → ℕ → Ran S E → Type 0
-Leaves m (Done s x k) = k < m
-Leaves m (Over s e) = Unit {0}
-
 -- A is claimed where the test does not hold
 abbrev pub Unless : Bool → Type 0 → Type 0
 Unless true A = Unit {0}
 Unless false A = A
 
--- with j more uses of rows it comes to the same, and j more are left; unless it had given up
-abbrev pub Lasts : {S E : Type 0} → (E → Bool) → ℕ → Ran S E → Ran S E → Type 0
-Lasts gave_up j (Done s x k) r = r ≡ Done s x (k + j)
-Lasts gave_up j (Over s e) r = Unless (gave_up e) (r ≡ Over s e)
+-- it comes to the same, unless it had given up
+abbrev pub Lasts : {S E A : Type 0} → (E → Bool) → Ran S E A → Ran S E A → Type 0
+Lasts gave_up (Done s x) r = r ≡ Done s x
+Lasts gave_up (Over s e) r = Unless (gave_up e) (r ≡ Over s e)
 
--- a run gives up where its rows are used up
+-- a run gives up where tasks are nested too deep
 abbrev pub is_short : Why → Bool
 is_short (Stopped x) = false
 is_short (Steps x) = false
@@ -62,7 +57,7 @@ is_short Short = true
 abbrev pub short : LiveEnd → Bool
 short e = is_short e.why
 
--- a replay gives up where its rows are used up; where its bound may grow, also at the bound
+-- a replay gives up where tasks are nested too deep; where its bound may grow, also at the bound
 abbrev pub gives_up : Bool → SoloEnd → Bool
 gives_up grows (Bound x) = grows
 gives_up grows Spent = true
@@ -70,7 +65,7 @@ gives_up grows CutOff = false
 gives_up grows Halted = false
 gives_up grows Unfit = false
 
--- a verdict that more rows do not change
+-- a verdict that more depth does not change
 abbrev pub Known : {R : Type 0} → Verdict R → Type 0
 Known (Fits r) = Unit {0}
 Known (Misfit i) = Unit {0}
@@ -83,6 +78,14 @@ Certain (Fits r) = Unit {0}
 Certain (Misfit i) = Unit {0}
 Certain (Bounded r x) = ⊥
 Certain Unknown = ⊥
+
+-- what was written up to the last world, whatever the end
+abbrev pub writes_of : {R A : Type 0} → LiveReach R A → List Write
+writes_of r = (let w = world_of r in w.writes)
+
+-- the first writes are the beginning of the others
+abbrev pub IsStart : List Write → List Write → Type 0
+IsStart xs ys = (rest : List Write) × (ys ≡ xs ++ rest)
 
 -- a link row joins a realm and its direct parent
 abbrev pub IsKin : Link → Type 0

@@ -4,10 +4,10 @@ use Rattle.sr_model.specs.Values.{Text, Name, Path, root, same, member, Passed}
 use Rattle.sr_model.specs.Outcomes.{Outcome, Valued, Thrown, told_of, Completion, Normal, Abrupt, Throw, Return, Break, Continue, Leave}
 use Rattle.sr_model.specs.Events.{Goal, Message, Source, Settle, Turn, Event, Cut}
 use Rattle.sr_model.specs.Realm.{Realm}
-use Rattle.sr_model.specs.Tasks.{Language}
+use Rattle.sr_model.specs.Scripts.{Language}
 use Rattle.sr_model.specs.World.{Slot, Pending, Told, Write, Uncaught, Answered, World, Place, fresh_slot, cross}
-use Rattle.sr_worlds.specs.Evaluation.{Done, Over, then_do, ev}
-use Rattle.sr_worlds.specs.Live.{Short, Broken, LiveRan, LiveMore, over, take, live}
+use Rattle.sr_worlds.specs.Evaluation.{Done, Over, then_do, state_of, ev}
+use Rattle.sr_worlds.specs.Live.{Short, Broken, LiveReach, LiveRan, LiveMore, over, take, live}
 
 -- a file, and what the loaders answer while it runs
 pub record File : Type 0 where
@@ -55,39 +55,39 @@ start l = record {
 -- more evaluates the tasks of the language
 module _ {T R : Type 0} (l : Language T R) (more : LiveMore T R) where
   -- a realm takes a message while none has an event under way
-  abbrev pub give : ℕ → Path → Message → World R → LiveRan R
-  give n p m w = take l more n p (idle p) w m
+  abbrev pub give : Path → Message → World R → LiveRan R
+  give p m w = take l more p (idle p) w m
 
   -- the parent takes what its child has settled
-  abbrev pub settle : (ℕ → World R → LiveRan R) → ℕ → World R → Told → Option Pending → LiveRan R
-  settle again n w t None = over Broken (idle t.child) w
-  settle again n w t (Some row) =
-      then_do (give n row.parent (Settle row.asked (told_of t.outcome)) (cross row.parent row.child (settled t.outcome) w))
-      (λ w' o k. again k w')
+  abbrev pub settle : (World R → LiveRan R) → World R → Told → Option Pending → LiveRan R
+  settle again w t None = over Broken (idle t.child) w
+  settle again w t (Some row) =
+      then_do (give row.parent (Settle row.asked (told_of t.outcome)) (cross row.parent row.child (settled t.outcome) w))
+      (λ w' o. again w')
 
   -- what is next: a settling comes before a ticket
-  abbrev pub next : (ℕ → World R → LiveRan R) → ℕ → World R → List Told → List Path → LiveRan R
-  next again n w (t ∷ told) tickets = settle again n (record w { told = told }) t (find (is_of t) w.pending)
-  next again n w [] (p ∷ tickets) = then_do (give n p Turn (record w { tickets = tickets })) (λ w' o k. again k w')
-  next again n w [] [] = Done w (Normal None) n
+  abbrev pub next : (World R → LiveRan R) → World R → List Told → List Path → LiveRan R
+  next again w (t ∷ told) tickets = settle again (record w { told = told }) t (find (is_of t) w.pending)
+  next again w [] (p ∷ tickets) = then_do (give p Turn (record w { tickets = tickets })) (λ w' o. again w')
+  next again w [] [] = Done w (Normal None)
 
   -- the turns and the settlings, until none is left; at most k of them
-  abbrev pub turns : ℕ → ℕ → World R → LiveRan R
-  turns zero n w = over Short (idle root) w
-  turns (suc k) n w = next (turns k) n w w.told w.tickets
+  abbrev pub turns : ℕ → World R → LiveRan R
+  turns zero w = over Short (idle root) w
+  turns (suc k) w = next (turns k) w w.told w.tickets
 
   -- a file, the line of its uncaught throw, and the turns
   abbrev pub ran : ℕ → World R → File → LiveRan R
-  ran n w f =
-      then_do (give n root (Source f.goal f.name f.text) (record w { answers = f.answers }))
-      (λ w' o k. turns (suc k) k (record w' { writes = w'.writes ++ uncaught l f.name o (w'.slots root) }))
+  ran k w f =
+      then_do (give root (Source f.goal f.name f.text) (record w { answers = f.answers }))
+      (λ w' o. turns k (record w' { writes = w'.writes ++ uncaught l f.name o (w'.slots root) }))
 
   -- one file after the other
   abbrev pub ran_all : ℕ → World R → List File → LiveRan R
-  ran_all n w [] = Done w (Normal None) n
-  ran_all n w (f ∷ fs) = then_do (ran n w f) (λ w' o k. ran_all k w' fs)
+  ran_all k w [] = Done w (Normal None)
+  ran_all k w (f ∷ fs) = then_do (ran k w f) (λ w' o. ran_all k w' fs)
 
--- the run of the files with at most n uses of rows
+-- the run of the files, with tasks nested at most n deep and fewer than n turns after each file
 abbrev pub run : {T R : Type 0} → Language T R → ℕ → ℕ → List File → LiveRan R
 run l bound n files = ran_all l (ev l (live l bound) n) n (start l) files
 
@@ -98,7 +98,7 @@ cuts false r = []
 
 -- realm p at the end of a run, with its tape
 abbrev pub slot_of : {R : Type 0} → Path → LiveRan R → Slot R
-slot_of p (Done w o m) = w.slots p
+slot_of p (Done w o) = w.slots p
 slot_of p (Over w e) = (let c = e.place in let s = w.slots p in record { realm = s.realm; tape = s.tape ++ cuts (member p c.under) s.realm })
 
 -- the realm alone
@@ -110,6 +110,5 @@ abbrev pub tape_of : {R : Type 0} → Path → LiveRan R → List Event
 tape_of p r = (let s = slot_of p r in s.tape)
 
 -- the last world of a run, whatever its end
-abbrev pub world_of : {R : Type 0} → LiveRan R → World R
-world_of (Done w o m) = w
-world_of (Over w e) = w
+abbrev pub world_of : {R A : Type 0} → LiveReach R A → World R
+world_of = state_of

@@ -1,91 +1,146 @@
--- A stack of waiting tasks, as a loop over frames keeps it, and what it means; over any outside.
-use Rattle.std.specs.Prelude.{ℕ, suc, ◌≡◌, List, [], ◌∷◌, ◌++◌}
-use Rattle.sr_model.specs.Outcomes.{Completion, Stop}
-use Rattle.sr_model.specs.Ports.{Port}
-use Rattle.sr_model.specs.Tasks.{Item, Gave, Coming, Part, Use, Give, Halt, Turned, kept_items, Language}
-use Rattle.sr_worlds.specs.Evaluation.{Ran, Done, Over, then_do, Outside, Go, ev}
+-- A stack of waiting scripts, as a loop over frames keeps it, and what it means; over any outside.
+use Rattle.std.specs.Prelude.{ℕ, suc, ◌≡◌, List, [], ◌∷◌}
+use Rattle.sr_model.specs.Values.{Text, Name, Crossing, Passed}
+use Rattle.sr_model.specs.Outcomes.{Outcome, Completion, Stop}
+use Rattle.sr_model.specs.Events.{Answer}
+use Rattle.sr_model.specs.Ports.{Request}
+use Rattle.sr_model.specs.Realm.{Inner, Realm}
+use Rattle.sr_model.specs.Scripts.{Script, Give, Halt, Look, Change, Part, Become, Pay, Enter, Line, Ticket, NewRealm, Tell, Load, Ask, Language, then_follow, IsPlain}
+use Rattle.sr_worlds.specs.Evaluation.{Ran, Done, Over, then_do, Outside, follow, ev}
 
--- below the top stand tasks that wait for a part of them, and boundaries that still do something when the work beyond them ends
-pub data Frame (T C B : Type 0) : Type 0 where
-  Waits : C → T → List Item → Frame T C B
-  Owes : B → Frame T C B
+-- below the top stand scripts that wait for a part of theirs, and boundaries that still do something when the work beyond them
+-- ends. Each has the depth to which its own parts may be nested
+pub data Frame (T R C B : Type 0) : Type 0 where
+  Waits : ℕ → C → (Completion → Script T R) → Frame T R C B
+  Owes : ℕ → B → Frame T R C B
 
--- the task on top, with its context, the state and what it was given, and the frames below it
-pub record Top (T C S B : Type 0) : Type 0 where
+-- the script on top, with its depth, its context and the state, and the frames below it
+pub record Top (T R C S B : Type 0) : Type 0 where
+  pub depth : ℕ
   pub context : C
   pub state : S
-  pub task : T
-  pub got : List Item
-  pub below : List (Frame T C B)
+  pub script : Script T R
+  pub below : List (Frame T R C B)
 
-module _ {T C S B : Type 0} where
-  -- a part of the task stands above it
-  abbrev pub with_part : T → Top T C S B → Top T C S B
-  with_part part t = record { context = t.context; state = t.state; task = part; got = []; below = Waits t.context t.task t.got ∷ t.below }
-
-  -- the task was given an item
-  abbrev pub with_item : C → S → Item → Top T C S B → Top T C S B
-  with_item c s i t = record { context = c; state = s; task = t.task; got = t.got ++ i ∷ []; below = t.below }
+-- a stack
+abbrev pub top : {T R C S B : Type 0} → ℕ → C → S → Script T R → List (Frame T R C B) → Top T R C S B
+top d c s k fs = record { depth = d; context = c; state = s; script = k; below = fs }
 
 -- owed is what a boundary does
-module _ {T R B : Type 0} (l : Language T R) (o : Outside T R) (owed : B → o.State → Completion → ℕ → Ran o.State o.End) where
+module _ {T R B : Type 0} (l : Language T R) (o : Outside T R) (owed : ℕ → B → o.State → Completion → Ran o.State o.End Completion) where
+  -- the frames of this outside
+  abbrev pub Frames : Type 0
+  Frames = List (Frame T R o.Context B)
+
   -- what frames come to after the work above them has ended
-  abbrev pub after : List (Frame T o.Context B) → o.State → Completion → ℕ → Ran o.State o.End
-  after [] s x k = Done s x k
-  after (Waits c task got ∷ fs) s x k = then_do (ev l o k k c s task (got ++ Gave x ∷ [])) (after fs)
-  after (Owes b ∷ fs) s x k = then_do (owed b s x k) (after fs)
+  abbrev pub after : Frames → o.State → Completion → Ran o.State o.End Completion
+  after [] s x = Done s x
+  after (Waits d c k ∷ fs) s x = then_do (follow l o (ev l o d) c s (k x)) (after fs)
+  after (Owes d b ∷ fs) s x = then_do (owed d b s x) (after fs)
 
-  -- what a stack comes to with so many uses of rows
-  abbrev pub means : ℕ → Top T o.Context o.State B → Ran o.State o.End
-  means m t = then_do (ev l o m m t.context t.state t.task t.got) (after t.below)
+  -- what a stack comes to
+  abbrev pub means : Top T R o.Context o.State B → Ran o.State o.End Completion
+  means t = then_do (follow l o (ev l o t.depth) t.context t.state t.script) (after t.below)
 
-  -- a turn of the row of the task on top, and the stack after it
-  abbrev pub turn_of : Top T o.Context o.State B → Turned T R
-  turn_of t = l.row t.task t.got (o.realm t.context t.state)
-
-  -- the stack after that turn
-  abbrev pub turned : Top T o.Context o.State B → Top T o.Context o.State B
-  turned t =
-      let x = turn_of t in
-      record { context = t.context; state = o.put t.context x.inner t.state; task = t.task; got = t.got ++ kept_items x.keeps; below = t.below }
-
-  -- what comes next, by that turn
-  abbrev pub Comes : Top T o.Context o.State B → Coming T → Type 0
-  Comes t next = (let x = turn_of t in x.next ≡ next)
-
-  -- the steps, each of which uses one row: what the stack means with one use more before it is what it means after it.
-  -- Where the task on top ends
+  -- the steps, by what the script on top is
   abbrev pub StepGives : Type 0
-  StepGives =
-      (m : ℕ) (t : Top T o.Context o.State B) (x : Completion) → Comes t (Give x) →
-      (let t' = turned t in means (suc m) t ≡ after t'.below t'.state x m)
+  StepGives = (d : ℕ) (c : o.Context) (s : o.State) (x : Completion) (fs : Frames) → means (top d c s (Give x) fs) ≡ after fs s x
 
-  -- where it stops all
+  -- a script that waited goes on
+  abbrev pub StepGoesOn : Type 0
+  StepGoesOn = (d : ℕ) (c : o.Context) (k : Completion → Script T R) (s : o.State) (x : Completion) (fs : Frames) → after (Waits d c k ∷ fs) s x ≡ means (top d c s (k x) fs)
+
+  -- it stops all
   abbrev pub StepHalts : Type 0
-  StepHalts =
-      (m : ℕ) (t : Top T o.Context o.State B) (x : Stop) → Comes t (Halt x) →
-      (let t' = turned t in means (suc m) t ≡ Over t'.state (o.halt t'.context x))
+  StepHalts = (d : ℕ) (c : o.Context) (s : o.State) (x : Stop) (fs : Frames) → means (top d c s (Halt x) fs) ≡ Over s (o.halt c x)
 
-  -- where it has a part, which stands above it
+  -- it looks at its realm
+  abbrev pub StepLooks : Type 0
+  StepLooks = (d : ℕ) (c : o.Context) (s : o.State) (f : Realm R → Script T R) (fs : Frames) → means (top d c s (Look f) fs) ≡ means (top d c s (f (o.realm c s)) fs)
+
+  -- it changes what its realm holds
+  abbrev pub StepChanges : Type 0
+  StepChanges =
+      (d : ℕ) (c : o.Context) (s : o.State) (f : Inner R → Inner R) (k : Script T R) (fs : Frames) →
+      (let r = o.realm c s in means (top d c s (Change f k) fs) ≡ means (top d c (o.put c (f r.inner) s) k fs))
+
+  -- it has a part, which stands above it
   abbrev pub StepPart : Type 0
-  StepPart =
-      (m : ℕ) (t : Top T o.Context o.State B) (part : T) → Comes t (Part part) →
-      means (suc m) t ≡ means m (with_part part (turned t))
+  StepPart = (d : ℕ) (c : o.Context) (s : o.State) (t : T) (k : Completion → Script T R) (fs : Frames) → means (top (suc d) c s (Part t k) fs) ≡ means (top d c s (l.row t) (Waits (suc d) c k ∷ fs))
 
-  -- whatever follows, the outside answers the port by f
-  abbrev pub Answers : ℕ → Port → Top T o.Context o.State B → (Go l o → Ran o.State o.End) → Type 0
-  Answers m port t f = (go : Go l o) → o.answer m (ev l o m) m port t.context t.state go ≡ f go
+  -- a part whose row is plain is as well evaluated in place
+  abbrev pub StepInPlace : Type 0
+  StepInPlace =
+      (d : ℕ) (c : o.Context) (s : o.State) (t : T) (k : Completion → Script T R) (fs : Frames) → IsPlain (l.row t) →
+      means (top (suc d) c s (Part t k) fs) ≡ means (top (suc d) c s (then_follow (l.row t) k) fs)
 
-  -- where it uses a port that is answered at once, and goes on with the item
-  abbrev pub StepAnswered : Type 0
-  StepAnswered =
-      (m : ℕ) (t : Top T o.Context o.State B) (port : Port) (c : o.Context) (s : o.State) (i : Item) →
-      Comes t (Use port) → Answers m port (turned t) (λ go. go c s i m) →
-      means (suc m) t ≡ means m (with_item c s i (turned t))
+  -- it goes on as another task, in its own place
+  abbrev pub StepBecomes : Type 0
+  StepBecomes = (d : ℕ) (c : o.Context) (s : o.State) (t : T) (fs : Frames) → means (top (suc d) c s (Become t) fs) ≡ means (top d c s (l.row t) fs)
 
-  -- where it uses a port that ends all
-  abbrev pub StepEnds : Type 0
-  StepEnds =
-      (m : ℕ) (t : Top T o.Context o.State B) (port : Port) (s : o.State) (e : o.End) →
-      Comes t (Use port) → Answers m port (turned t) (λ go. Over s e) →
-      means (suc m) t ≡ Over s e
+  -- it pays, or all ends
+  abbrev pub StepPays : Type 0
+  StepPays = (d : ℕ) (c : o.Context) (s s' : o.State) (x : ℕ) (k : Script T R) (fs : Frames) → o.pay x c s ≡ Done s' tt → means (top d c s (Pay x k) fs) ≡ means (top d c s' k fs)
+
+  abbrev pub StepPayEnds : Type 0
+  StepPayEnds = (d : ℕ) (c : o.Context) (s s' : o.State) (e : o.End) (x : ℕ) (k : Script T R) (fs : Frames) → o.pay x c s ≡ Over s' e → means (top d c s (Pay x k) fs) ≡ Over s' e
+
+  -- it enters a function, or all ends
+  abbrev pub StepEnters : Type 0
+  StepEnters = (d : ℕ) (c : o.Context) (s s' : o.State) (k : Script T R) (fs : Frames) → o.enter c s ≡ Done s' tt → means (top d c s (Enter k) fs) ≡ means (top d (o.deeper c) s' k fs)
+
+  abbrev pub StepEnterEnds : Type 0
+  StepEnterEnds = (d : ℕ) (c : o.Context) (s s' : o.State) (e : o.End) (k : Script T R) (fs : Frames) → o.enter c s ≡ Over s' e → means (top d c s (Enter k) fs) ≡ Over s' e
+
+  -- it prints a line
+  abbrev pub StepPrints : Type 0
+  StepPrints = (d : ℕ) (c : o.Context) (s : o.State) (text : Text) (k : Script T R) (fs : Frames) → means (top d c s (Line text k) fs) ≡ means (top d c (o.line text c s) k fs)
+
+  -- it has one more job
+  abbrev pub StepTickets : Type 0
+  StepTickets = (d : ℕ) (c : o.Context) (s : o.State) (k : Script T R) (fs : Frames) → means (top d c s (Ticket k) fs) ≡ means (top d c (o.ticket c s) k fs)
+
+  -- it makes a child
+  abbrev pub StepMakes : Type 0
+  StepMakes = (d : ℕ) (c : o.Context) (s : o.State) (k : Script T R) (fs : Frames) → means (top d c s (NewRealm k) fs) ≡ means (top d c (o.birth c s) k fs)
+
+  -- it settles an import
+  abbrev pub StepTells : Type 0
+  StepTells = (d : ℕ) (c : o.Context) (s : o.State) (n : ℕ) (x : Outcome Passed) (k : Script T R) (fs : Frames) → means (top d c s (Tell n x k) fs) ≡ means (top d c (o.tell n x c s) k fs)
+
+  -- it loads, or all ends
+  abbrev pub StepLoads : Type 0
+  StepLoads = (d : ℕ) (c : o.Context) (s s' : o.State) (name : Name) (x : Answer) (k : Answer → Script T R) (fs : Frames) → o.load name c s ≡ Done s' x → means (top d c s (Load name k) fs) ≡ means (top d c s' (k x) fs)
+
+  abbrev pub StepLoadEnds : Type 0
+  StepLoadEnds = (d : ℕ) (c : o.Context) (s s' : o.State) (e : o.End) (name : Name) (k : Answer → Script T R) (fs : Frames) → o.load name c s ≡ Over s' e → means (top d c s (Load name k) fs) ≡ Over s' e
+
+  -- it asks, and is answered at once; or all ends
+  abbrev pub StepAsks : Type 0
+  StepAsks = (d : ℕ) (c : o.Context) (s s' : o.State) (x : Request) (y : Outcome Crossing) (k : Outcome Crossing → Script T R) (fs : Frames) → o.ask (ev l o d) x c s ≡ Done s' y → means (top d c s (Ask x k) fs) ≡ means (top d c s' (k y) fs)
+
+  abbrev pub StepAskEnds : Type 0
+  StepAskEnds = (d : ℕ) (c : o.Context) (s s' : o.State) (e : o.End) (x : Request) (k : Outcome Crossing → Script T R) (fs : Frames) → o.ask (ev l o d) x c s ≡ Over s' e → means (top d c s (Ask x k) fs) ≡ Over s' e
+
+  -- all of them
+  pub record Steps : Type 0 where
+    pub gives : StepGives
+    pub goes_on : StepGoesOn
+    pub halts : StepHalts
+    pub looks : StepLooks
+    pub changes : StepChanges
+    pub part : StepPart
+    pub in_place : StepInPlace
+    pub becomes : StepBecomes
+    pub pays : StepPays
+    pub pay_ends : StepPayEnds
+    pub enters : StepEnters
+    pub enter_ends : StepEnterEnds
+    pub prints : StepPrints
+    pub tickets : StepTickets
+    pub makes : StepMakes
+    pub tells : StepTells
+    pub loads : StepLoads
+    pub load_ends : StepLoadEnds
+    pub asks : StepAsks
+    pub ask_ends : StepAskEnds

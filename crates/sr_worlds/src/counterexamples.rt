@@ -1,20 +1,11 @@
-//! Why three rules of the outside are as they are: otherwise a realm of some run is not what its tape gives.
+//! Why two rules of runs are as they are: otherwise a realm of some run is not what its tape gives.
 
 ghost use Rattle.std.specs.Prelude.{◌≡◌, [], ◌∷◌};
 ghost use Rattle.sr_model.specs.Values.{root, child};
-ghost use Rattle.sr_model.specs.Events.{Script, Source, Evaluate, Import, Turn, Took, Cut};
+ghost use Rattle.sr_model.specs.Events.{Evaluate, Import, Turn, Took, Cut};
 ghost use Rattle.sr_worlds.specs.Run.{realm_of, tape_of};
 ghost use Rattle.sr_worlds.specs.Replay.{Fits, Misfit};
-ghost use Rattle.sr_worlds.specs.Apart.{paid_run, tested_replay, apart_run, apart_replay, at_once_run, at_once_replay, held, replayed};
-
-/// If a charge of nothing tested the cut, a replay could take there the cut that the run put at a later charge, with as many
-/// own steps: it would fit, and come to another realm.
-pub fn a_charge_of_nothing_must_test_nothing()
-    ensures tape { tape_of root paid_run ≡ Took (Source Script [] []) ∷ Cut 1 ∷ [] }
-    ensures live { held root paid_run ≡ 7 }
-    ensures replay { replayed tested_replay ≡ 0 }
-    ensures differs { tested_replay ≡ Fits (realm_of root paid_run) → ⊥ }
-{}
+ghost use Rattle.sr_worlds.specs.Apart.{apart_run, apart_replay, at_once_run, at_once_replay};
 
 /// If entering a function and its charge were two ports, a run could stop at a limit that other realms have used up, where
 /// the replay goes on to an outcome: the cut would be left over.

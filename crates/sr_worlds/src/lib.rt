@@ -7,11 +7,13 @@
 pub mod isolation;
 /// What joins realms.
 pub mod links;
-/// The uses of rows that are left, the depth and larger counts and bounds.
+/// Larger depths and bounds.
 pub mod counts;
-/// The exact steps of a stack of waiting tasks.
+/// What is written.
+pub mod writes;
+/// The exact steps of a stack of waiting scripts.
 pub mod stacks;
 /// Three small runs, whole.
 pub mod runs;
-/// Three rules that the law of isolation needs.
+/// Two rules that the law of isolation needs.
 pub mod counterexamples;

@@ -1,11 +1,8 @@
-use Rattle.std.proofs.Common.{◌≡◌, sym, ap, ◌∙◌}
-use Rattle.sr_conv.specs.Answers.{operated_of}
-use Rattle.sr_state.specs.declared.ends.Answer.TheVariants as answer
-use Rattle.sr_state.specs.declared.ends.Completion.TheVariants as completion
-use Rattle.sr_expr.proofs.Steps.{unary_end}
+use Rattle.std.proofs.Common.{rules}
+use Rattle.sr_state.specs.Trees.{give_value}
+use Rattle.sr_expr.specs.Stages.{unary_at}
+use Rattle.sr_expr.proofs.Paid.{paid_steps}
 use Rattle.sr_expr.proofs.unary.unary.Goals as goal
 
-pub returns-in_ok-came-in-Done-Normal : goal.returns-in_ok-came-in-Done-Normal
-returns-in_ok-came-in-Done-Normal c =
-    let answer : c.args.state.now.answer ≡ answer.Done (completion.Normal c.in-Done-Normal.x) = sym c.take_answer.ensures.answer ∙ c.in-Done-Normal.is ∙ ap answer.Done c.in-Done-Normal.field-0-is in
-    unary_end c.args.source c.args.at c.args.op c.args.operand.now c.args.frame.now c.args.state.now c.take_answer.new.self _ c.in-Done-Normal.x (operated_of c.in_ok-came-in-Done-Normal.came) c.end_operated.result c.in-1.is answer c.in_ok-came-in-Done-Normal.ensures c.take_answer.ensures.rest c.end_operated.ensures
+pub returns : goal.returns
+returns c rows = paid_steps rows (unary_at c.args.at c.args.op c.args.operand.now) give_value c.args.state.now c.give-in-Value-pay_kept.result c.give-in-Value-pay_kept.new.self c.pay_kept.new.self c.in-Value-pay_kept.value (search rules) (search rules) (search rules)

@@ -1,0 +1,109 @@
+-- A device of the proof: what a frame of a statement or a source stands for at each stage. At stage 0 it is the row. Nobody who reads the
+-- language needs this file.
+use Rattle.std.specs.Prelude.{ℕ, zero, suc, List, [], ◌∷◌, Option, None, Some, drop}
+use Rattle.sr_ast.specs.declared.tree.Tree.{Tree}
+use Rattle.sr_ast.specs.declared.tree.Declaration.{Declaration, out-Declaration}
+use Rattle.sr_ast.specs.declared.tree.Element.TheOpen as layer
+use Rattle.sr_ast.specs.Layer.{Layer, layer_of}
+use Rattle.sr_ast.specs.declared.reading.Reading.{Reading}
+use Rattle.sr_ast.specs.declared.reading.Reading.TheVariants as reading
+use Rattle.sr_ast.specs.declared.reading.SourceCode.{SourceCode}
+use Rattle.sr_model.specs.Values.{Text, Value, Simple, Undefined}
+use Rattle.sr_model.specs.Outcomes.{Normal}
+use Rattle.sr_model.specs.Scripts.{Give, Change}
+use Rattle.sr_model.specs.Globals.{assigned}
+use Rattle.sr_state.specs.Work.{Steps, Loop}
+use Rattle.sr_state.specs.Step.{Given, At}
+use Rattle.sr_state.specs.Trees.{value_in, give_value, throw_error, evaluated_at, valued_at}
+use Rattle.sr_stmt.specs.Rows.{update_empty, at_test, after_body, tree_or, value_after, expression, declare, variables, statements, block, empty, chosen, choice, again, turn, tested, loop, do_loop, while_loop, for_loop, read_source, source}
+
+-- the declarations that are left, of which the first is under way where it has a value
+abbrev pub declare_one_at : ℕ → Given → Text → Option Tree → Steps → Steps
+declare_one_at s g x None k = k
+declare_one_at s g x (Some t) k = valued_at s 0 g t (λ v. Change (assigned x v) k)
+
+abbrev pub declare_at : ℕ → Given → List Declaration → Steps
+declare_at s g [] = Give (Normal None)
+declare_at s g (d ∷ ds) = (let o = out-Declaration d in declare_one_at s g o.name o.value (declare s 0 ds))
+
+-- the statements that are left, of which the first is under way, with the value so far
+abbrev pub statements_at : ℕ → Given → List Tree → Option Value → Steps
+statements_at s g [] v = Give (Normal v)
+statements_at s g (t ∷ ts) v = evaluated_at s 0 g t (λ w. statements s 0 ts (update_empty w v))
+
+abbrev pub branch_at : ℕ → Given → Option Tree → Steps
+branch_at s g None = give_value (Simple Undefined)
+branch_at s g (Some t) = valued_at s 0 g t give_value
+
+-- a loop is at its condition at stage 1, at its body at stage 2, and after a turn at stage 3; `for` is at what comes first at stage 4.
+-- The value so far is kept
+abbrev pub loop_at : Loop → Steps → (Given → Steps) → At
+loop_at l row first s zero kept g = row
+loop_at l row first s (suc zero) kept g = valued_at s 0 g (tree_or l.test l.body) (tested s 0 l (value_in kept.value))
+loop_at l row first s (suc (suc zero)) kept g = evaluated_at s 0 g l.body (λ w. again s 0 l (after_body l.update l.test) (value_after w (value_in kept.value)))
+loop_at l row first s (suc (suc (suc zero))) kept g = evaluated_at s 0 g (tree_or l.update l.body) (λ w. again s 0 l (at_test l.test) (value_in kept.value))
+loop_at l row first s (suc (suc (suc (suc n)))) kept g = first g
+
+module _ (at : ℕ) where
+  abbrev pub expression_at : Tree → At
+  expression_at t s zero kept g = expression s 0 at t
+  expression_at t s (suc n) kept g = throw_error
+
+  -- at stage n + 1 the n-th declaration is under way
+  abbrev pub variables_at : List Declaration → At
+  variables_at ds s zero kept g = variables s 0 at ds
+  variables_at ds s (suc n) kept g = declare_at s g (drop n ds)
+
+  -- at stage n + 1 the n-th statement is under way
+  abbrev pub block_at : List Tree → At
+  block_at ts s zero kept g = block s 0 at ts
+  block_at ts s (suc n) kept g = statements_at s g (drop n ts) kept.value
+
+  abbrev pub empty_at : At
+  empty_at s zero kept g = empty s 0 at
+  empty_at s (suc n) kept g = throw_error
+
+  abbrev pub choice_at : Tree → Tree → Option Tree → At
+  choice_at c a b s zero kept g = choice s 0 at c a b
+  choice_at c a b s (suc zero) kept g = valued_at s 0 g c (chosen s 0 a b)
+  choice_at c a b s (suc (suc zero)) kept g = branch_at s g (Some a)
+  choice_at c a b s (suc (suc (suc n))) kept g = branch_at s g b
+
+  abbrev pub do_at : Tree → Tree → At
+  do_at body test s n kept g = loop_at (record { test = Some test; update = None; body = body }) (do_loop s 0 at body test) (λ g. throw_error) s n kept g
+
+  abbrev pub while_at : Tree → Tree → At
+  while_at test body s n kept g = loop_at (record { test = Some test; update = None; body = body }) (while_loop s 0 at test body) (λ g. throw_error) s n kept g
+
+  abbrev pub first_at : ℕ → Option Tree → Loop → Given → Steps
+  first_at s None l g = throw_error
+  first_at s (Some t) l g = evaluated_at s 0 g t (λ v. loop s 0 l (at_test l.test) (Simple Undefined))
+
+  abbrev pub for_at : Option Tree → Loop → At
+  for_at first l s n kept g = loop_at l (for_loop s 0 at first l) (first_at s first l) s n kept g
+
+  abbrev pub layer_at : Layer → At
+  layer_at (layer.Expression t) = expression_at t
+  layer_at (layer.Directive t) = expression_at t
+  layer_at (layer.Var ds) = variables_at ds
+  layer_at (layer.Block ts) = block_at ts
+  layer_at layer.Empty = empty_at
+  layer_at (layer.If c a b) = choice_at c a b
+  layer_at (layer.Do body test) = do_at body test
+  layer_at (layer.While test body) = while_at test body
+  layer_at (layer.For first test update body) = for_at first (record { test = test; update = update; body = body })
+  layer_at l = empty_at
+
+abbrev pub statement_at : Tree → At
+statement_at t = layer_at t.from (layer_of t)
+
+-- a source that has been read: the statements from the n-th on are left
+abbrev pub script_at : Reading → ℕ → ℕ → Given → Option Value → Steps
+script_at (reading.Script x) s n g v = statements_at s g (drop n x.body) v
+script_at (reading.Refused e) s n g v = throw_error
+
+-- at stage 1 the text is to be paid, and at stage n + 2 the n-th statement is under way
+abbrev pub source_at : SourceCode → At
+source_at x s zero kept g = source x
+source_at x s (suc zero) kept g = read_source x
+source_at x s (suc (suc n)) kept g = script_at x.reading s n g kept.value
