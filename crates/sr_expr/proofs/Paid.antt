@@ -10,7 +10,7 @@ use Rattle.sr_state.specs.declared.ends.StopName.TheVariants as stop
 use Rattle.sr_state.specs.declared.parts.Valued.TheVariants as valued
 use Rattle.sr_state.specs.Held.{Held, Side, cut_in, room_in, pay_in, keeping}
 use Rattle.sr_state.specs.Parts.{Paying, PaysKept, kept_in}
-use Rattle.sr_state.specs.Step.{At, Stay, Rows, Far, Later, Where, Stops, far_of, given_of, kept_of, goes, further, Stays, StepsWith}
+use Rattle.sr_state.specs.Step.{At, Stay, Rows, Far, Paid, Where, Stops, far_of, given_of, kept_of, goes, further, Stays, StepsWith}
 use Rattle.sr_state.specs.Trees.{text_in, text_cost, paid_value}
 use Rattle.sr_state.specs.Work.{Steps}
 
@@ -41,8 +41,8 @@ module _ (rows : Rows) (at : At) (k : Value → Steps) (old : Held) (n : Next) (
       let to : mid.side ≡ pay_in (suc c) x = ap (λ (h : Held). h.side) same ∙ ap (λ (h : Held). h.side) paying.2 in
       subst (λ (c : ℕ). on (far_of old.answer) (pay c (k (kept_in old))) old.side) (sym e)
       (subst (λ (a : Answer). on (far_of a) (Pay c (k (kept_in old))) old.side) (sym paying.0)
-      (where_true (cut_in o x) (room_in o.bound x (suc c)) (on Later (k (kept_in old)) (pay_in (suc c) x)) (Stops next.CutOff o x n new) (Stops (next.Halt (stop.Steps x.used (suc c))) o x n new) (let p = paying.1 in p.0) (let p = paying.1 in p.1)
-      (subst (λ (x : Side). on Later (k (kept_in old)) x) to (go Later))))
+      (where_true (cut_in o x) (room_in o.bound x (suc c)) (on Paid (k (kept_in old)) (pay_in (suc c) x)) (Stops next.CutOff o x n new) (Stops (next.Halt (stop.Steps x.used (suc c))) o x n new) (let p = paying.1 in p.0) (let p = paying.1 in p.1)
+      (subst (λ (x : Side). on Paid (k (kept_in old)) x) to (go Paid))))
 
   pub paid_steps : (mid : Held) (w : code.Value) → PaysKept old (valued.Value w) mid
       → (let f = old.top in at f.source f.stage (kept_of f) (given_of old.answer) ≡ paid_value (kept_in old) k)

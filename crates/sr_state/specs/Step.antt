@@ -74,14 +74,15 @@ abbrev pub end_of : Operand → Realm Holds → Completion
 end_of (Literal v) r = Normal (Some v)
 end_of (Name x) r = found (global_value x r)
 
--- a step was given nothing and has done nothing; or it goes on from an end, or from a payment. It pays in the first case alone
+-- how far a step is: it was given nothing and has done nothing; it was given an end; it has paid. It pays in the first case alone
 pub data Far : Type 0 where
   Fresh : Far
-  Later : Far
+  Resumed : Far
+  Paid : Far
 
 abbrev pub far_of : Answer → Far
 far_of answer.Empty = Fresh
-far_of (answer.Done o) = Later
+far_of (answer.Done o) = Resumed
 
 -- a frame that begins a task with k active calls. There is one environment, the global one, with the number 0
 abbrev pub IsFresh : language.Work → ℕ → Frame → Type 0
@@ -147,12 +148,20 @@ Becomes under o x k t n new = (n ≡ next.Going) × Left o x new × IsFresh t k 
 abbrev pub on_part : Option Operand → Far → (Operand → Type 0) → Type 0 → Type 0 → Type 0
 on_part None b evaluates stays begins = begins
 on_part (Some z) Fresh evaluates stays begins = evaluates z
-on_part (Some z) Later evaluates stays begins = stays
+on_part (Some z) Resumed evaluates stays begins = stays
+on_part (Some z) Paid evaluates stays begins = stays
 
 -- a step pays only as it begins: where it comes to a payment later it ends, and the frame stands for the rest
 abbrev pub on_pay : Far → Type 0 → Type 0 → Type 0
 on_pay Fresh pays stays = pays
-on_pay Later pays stays = stays
+on_pay Resumed pays stays = stays
+on_pay Paid pays stays = stays
+
+-- a step prints only after it has paid
+abbrev pub on_line : Far → Type 0 → Type 0
+on_line Fresh prints = ⊥
+on_line Resumed prints = ⊥
+on_line Paid prints = prints
 
 -- what a step does that goes on with a task other than a tree
 abbrev pub Further : Type 1
@@ -166,15 +175,15 @@ goes m b (Halt y) stays under o x k n new = HaltsBy n y × (new.side ≡ x) × (
 goes m b (Look f) stays under o x k n new = goes m b (f (realm_in x)) stays under o x k n new
 goes m b (Change f s) stays under o x k n new = goes m b s stays under o (change_in f x) k n new
 goes m b (Pay c s) stays under o x k n new =
-    on_pay b (Charged (suc c) o x n new (goes m Later s stays under o (pay_in (suc c) x) k n new)) (Goes stays under o x k (Is (Pay c s)) n new)
+    on_pay b (Charged (suc c) o x n new (goes m Paid s stays under o (pay_in (suc c) x) k n new)) (Goes stays under o x k (Is (Pay c s)) n new)
 goes m b (Enter s) stays under o x k n new =
-    on_pay b (Where (may_enter k) (Charged 1 o x n new (goes m Later s stays under o (pay_in 1 x) (suc k) n new)) (Stops (next.Halt stop.CallDepth) o x n new))
+    on_pay b (Where (may_enter k) (Charged 1 o x n new (goes m Paid s stays under o (pay_in 1 x) (suc k) n new)) (Stops (next.Halt stop.CallDepth) o x n new))
     (Goes stays under o x k (Is (Enter s)) n new)
 goes m b (Line text s) stays under o x k n new =
-    (n ≡ next.Print text) × Left o x new × ((e : Completion) → stays k new.top (Ended e) (Is s)) × (new.frames ≡ under)
+    on_line b ((n ≡ next.Print text) × Left o x new × ((e : Completion) → stays k new.top (Ended e) (Is s)) × (new.frames ≡ under))
 goes m b (Part (Run source environment t) s) stays under o x k n new =
     on_part (operand_of t) b
-    (λ z. Charged 1 o x n new (let y = begun_in source t.from x in goes m Later (s (end_of z (realm_in y))) stays under o y k n new))
+    (λ z. Charged 1 o x n new (let y = begun_in source t.from x in goes m Paid (s (end_of z (realm_in y))) stays under o y k n new))
     (Goes stays under o x k (IsPart (Run source environment t) s) n new)
     (Begins stays under o x k (Run source environment t) s n new)
 goes m b (Part t s) stays under o x k n new = Begins stays under o x k t s n new
