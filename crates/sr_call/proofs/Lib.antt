@@ -1,3 +1,2 @@
-pub mod Joins
 pub mod Arguments
-pub mod Paid
+pub mod Joins

@@ -1,4 +1,3 @@
 pub mod Rows
-pub mod At
-pub mod Steps
-pub mod Lines
+pub mod Stages
+pub mod Parts

@@ -1,16 +1,32 @@
 ghost use Rattle.std.specs.Prelude.{◌≡◌, IfOk};
-ghost use Rattle.sr_state.specs.declared.frame.Activity.TheVariants as activity;
-ghost use Rattle.sr_state.specs.declared.frame.BuiltIn.TheVariants as built_in;
 ghost use Rattle.sr_state.specs.Step.{StepsBy};
-ghost use Rattle.sr_call.specs.At.{print_at};
+ghost use Rattle.sr_call.specs.Stages.{built_in_at};
 
-use crate::printing::print;
-use sr_state::{Frame, Next, State};
-use std::alloc::{AllocError, Global};
+use crate::places::{Place, place_of};
+use crate::printing::{argument, go_on, print_kept};
+use sr_state::{BuiltIn, Next, State, Valued};
+use sr_value::Value;
+use std::alloc::AllocError;
 
-/// A step of a frame on top of the stack, of a call of a built-in function. There is one, `print`.
-pub fn step(alloc: Global, state: &mut State, frame: &mut Frame) -> Result<Next, AllocError>
-    ensures { IfOk result (λ next. frame.old.activity ≡ activity.BuiltIn built_in.Print → StepsBy print_at frame.old state.old next state.new) }
+/// A step of the frame on top, which calls this built-in function.
+pub fn step(state: &mut State, function: BuiltIn) -> Result<Next, AllocError>
+    ensures { IfOk result (λ next. StepsBy (built_in_at function) state.old next state.new) }
 {
-    print(alloc, state, frame)
+    match place_of(state.stage()) {
+        Place::Entry => match state.enter() {
+            Some(next) => Ok(next),
+            None => match function {
+                BuiltIn::Print => go_on(state, 0),
+            },
+        },
+        Place::Printed => Ok(state.give(Value::Undefined)),
+        Place::Made => match state.pay_kept() {
+            Valued::Left(next) => Ok(next),
+            Valued::Value(line) => Ok(print_kept(state, line)),
+        },
+        Place::Argument(number) => match state.pay(1) {
+            Some(next) => Ok(next),
+            None => argument(state, number),
+        },
+    }
 }

@@ -1,11 +1,13 @@
-//! The steps of built-in functions.
+//! The steps of the built-in functions.
 #![tactic(auto)]
 
 /// Calls.
 mod calls;
-/// `print`.
-mod printing;
 /// The line that `print` writes.
 mod line;
+/// How far calls are.
+mod places;
+/// `print`.
+mod printing;
 
 pub use calls::step;

@@ -1,54 +1,59 @@
-ghost use Rattle.std.specs.Prelude.{◌≡◌, ◌<◌, ◌≤◌, length, IfOk, OnOk, MatchOption};
-ghost use Rattle.sr_conv.specs.Conversions as conversion;
+ghost use Rattle.std.specs.Prelude.{◌≡◌, ◌++◌, IfOk, OnOk};
 ghost use Rattle.sr_conv.specs.Plain.{value_of};
-ghost use Rattle.sr_state.specs.Step.{plain};
-ghost use Rattle.sr_call.specs.Rows.{joined};
-ghost use Rattle.sr_call.specs.At.{text_or_none, texts_of};
-ghost use Rattle.sr_call.specs.Lines.{extended};
+ghost use Rattle.sr_state.specs.Trees.{text_in};
+ghost use Rattle.sr_call.specs.Parts.{line_of, IsString};
 
-use sr_conv::{Computed, to_text};
-use sr_text::Str;
+use sr_text::{MAX_UNITS, Str, TextRefusal};
 use sr_value::Value;
 use std::alloc::{AllocError, Global};
 
-/// The most code units that a string may have.
-const MAX_UNITS: usize = 16_777_216;
-
-/// Adds the text of a value, where it has one, after a space unless it is the first one.
-fn add_text(
-    alloc: Global,
-    units: &mut Vec<u16>,
-    first: bool,
-    value: &Value,
-) -> Result<(), AllocError>
-    ensures { OnOk result (units.new.items ≡ extended first units.old.items (text_or_none (conversion.to_text (value_of value.now)))) }
+/// The texts that values are, with a space between each two; none where that is too long for a string. A single text is shared.
+pub fn line(alloc: Global, values: &[Value]) -> Result<Option<Str>, AllocError>
+    ensures { IfOk result (λ s. IsString (line_of values.now) s) }
 {
-    if !first {
-        units.push(0x20)?;
-    }
-    match to_text(alloc, value)? {
-        Computed::Is(text) => units.extend_from_slice(text.units()),
-        Computed::Stops(_) | Computed::Fails => Ok(()),
+    match values {
+        [Value::Str(text)] => Ok(Some(text.clone()?)),
+        _ => join(alloc, values),
     }
 }
 
-/// The texts of the values with a space between each two, or none where it is too long for a string.
-pub(crate) fn line(alloc: Global, values: &[Value]) -> Result<Option<Str>, AllocError>
-    ensures { IfOk result (λ line. MatchOption line
-        (16777216 < length (joined (texts_of (plain values.now))))
-        (λ text. (text ≡ joined (texts_of (plain values.now))) × (length text ≤ 16777216))) }
+/// The same, put together.
+#[tactic(auto, using(crate::proofs::Joins::line_whole))]
+fn join(alloc: Global, values: &[Value]) -> Result<Option<Str>, AllocError>
+    ensures { IfOk result (λ s. IsString (line_of values.now) s) }
 {
     let mut units = Vec::new(alloc);
-    let mut first = true;
-    for value in values {
-        add_text(alloc, &mut units, first, value)?;
-        first = false;
+    let Some((first, rest)) = values.split_first() else {
+        return string(alloc, &units);
+    };
+    add(&mut units, first)?;
+    for value in rest {
         if units.len() > MAX_UNITS {
             return Ok(None);
         }
+        units.push(0x20)?;
+        add(&mut units, value)?;
     }
-    match Str::of_units(alloc, &units) {
+    string(alloc, &units)
+}
+
+/// Adds the text that a value is.
+fn add(units: &mut Vec<u16>, value: &Value) -> Result<(), AllocError>
+    ensures { OnOk result (units.new.items ≡ units.old.items ++ text_in (value_of value.now)) }
+{
+    match value {
+        Value::Str(text) => units.extend_from_slice(text.units()),
+        _ => Ok(()),
+    }
+}
+
+/// The string of these code units; none where they are too many.
+fn string(alloc: Global, units: &[u16]) -> Result<Option<Str>, AllocError>
+    ensures { IfOk result (λ s. IsString units.now s) }
+{
+    match Str::of_units(alloc, units) {
         Ok(text) => Ok(Some(text)),
-        Err(_) => Err(AllocError),
+        Err(TextRefusal::TooLong) => Ok(None),
+        Err(TextRefusal::NotUtf8(_) | TextRefusal::Memory) => Err(AllocError),
     }
 }

@@ -5,6 +5,7 @@ use Rattle.sr_value.specs.declared.value.Value.{Value}
 use Rattle.sr_value.specs.declared.value.Value.TheVariants as value
 use Rattle.sr_model.specs.Values as model
 use Rattle.sr_model.specs.Outcomes.{Stop}
+use Rattle.sr_model.specs.World.{may_enter}
 use Rattle.sr_model.specs.Outcomes as model_ends
 use Rattle.sr_conv.specs.Plain.{value_of, option_of}
 use Rattle.sr_conv.specs.Operators.{Operated, Gives, Joins, Halts, Rejects}
@@ -24,7 +25,7 @@ use Rattle.sr_state.specs.declared.parts.Resumed.TheVariants as resumed
 use Rattle.sr_state.specs.declared.parts.Valued.{Valued}
 use Rattle.sr_state.specs.declared.parts.Valued.TheVariants as valued
 use Rattle.sr_state.specs.Ends.{abrupt_of, completion_of, HaltsBy}
-use Rattle.sr_state.specs.Held.{Held, Side, realm_in, pay_in, begun_in, room_in, cut_in, with_side, answered, staged, keeping, topped, above}
+use Rattle.sr_state.specs.Held.{Held, Side, realm_in, pay_in, begun_in, room_in, cut_in, with_side, answered, staged, keeping, topped, deeper, above}
 use Rattle.sr_state.specs.declared.parts.Operand as code
 use Rattle.sr_state.specs.declared.parts.Operand.TheVariants as told
 use Rattle.sr_state.specs.Step.{Operand, Literal, Name, operand_of, end_of}
@@ -50,6 +51,18 @@ Paying c f old None new = (old.answer ≡ answer.Empty) × IsPayable c old × (n
 Paying c f old (Some n) new =
     ((o : Completion) × (old.answer ≡ answer.Done o) × (n ≡ next.Going) × (new ≡ emptied old))
     ⊎ ((old.answer ≡ answer.Empty) × IsRefused c old n × (new ≡ emptied old))
+
+-- the entry of a function is refused: one call more is too many, or its step cannot be paid
+abbrev pub IsShut : Held → Next → Type 0
+IsShut h n = (let f = h.top in ((may_enter f.calls ≡ false) × (n ≡ next.Halt stop.CallDepth)) ⊎ ((may_enter f.calls ≡ true) × IsRefused 1 h n))
+
+-- the entry of a function as a step begins: it is entered, or the step is over. A step that was given an end ends before it
+abbrev pub Enters : Held → Option Next → Held → Type 0
+Enters old None new =
+    (let f = old.top in (old.answer ≡ answer.Empty) × (may_enter f.calls ≡ true) × IsPayable 1 old × (new ≡ deeper (with_side (emptied old) (pay_in 1 old.side))))
+Enters old (Some n) new =
+    ((o : Completion) × (old.answer ≡ answer.Done o) × (n ≡ next.Going) × (new ≡ emptied old))
+    ⊎ ((old.answer ≡ answer.Empty) × IsShut old n × (new ≡ emptied old))
 
 -- the frame of a tree, as it begins
 abbrev pub tree_frame : ℕ → Tree → ℕ → Frame

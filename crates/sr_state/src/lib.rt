@@ -20,6 +20,6 @@ mod state;
 pub use ends::{Abrupt, Answer, Charge, Completion, Leaving, Next, StopName};
 pub use errors::{ErrorName, ErrorObject, syntax_message};
 pub use frame::{Activity, BuiltIn, Frame};
-pub use parts::{Resumed, Valued, value_or_undefined};
+pub use parts::{Resumed, Valued, string_cost, value_or_undefined};
 pub use realm::{Kept, Link};
 pub use state::{Level, State};

@@ -7,7 +7,7 @@ ghost use Rattle.sr_state.specs.declared.ends.Completion.TheVariants as completi
 ghost use Rattle.sr_state.specs.Trees.{value_in, text_in};
 ghost use Rattle.sr_state.specs.Held.{pay_in, begun_in};
 ghost use Rattle.sr_state.specs.Step.{operand_of};
-ghost use Rattle.sr_state.specs.Parts.{Paying, Evaluates, Opens, Resumes, ResumesValue, BeginsPart, BeginsWith, EndsWith, Operates, IsCost, no_error, operand_told, become, part_begun, PaysKept, performing};
+ghost use Rattle.sr_state.specs.Parts.{Paying, Enters, Evaluates, Opens, Resumes, ResumesValue, BeginsPart, BeginsWith, EndsWith, Operates, IsCost, no_error, operand_told, become, part_begun, PaysKept, performing};
 
 use crate::ends::{Abrupt, Answer, Charge, Completion, Next, StopName};
 use crate::frame::{Activity, BuiltIn, Frame};
@@ -97,6 +97,26 @@ impl State {
                 Charge::Bound => Some(self.out_of_steps(1)),
                 Charge::Cut => Some(Next::CutOff),
             },
+        }
+    }
+
+    /// Enters a function, as a step begins: the limit of active calls is tested before its step is paid. Some: the step is over.
+    pub fn enter(&mut self) -> Option<Next>
+        ensures { Enters self.old result self.new }
+    {
+        if self.top().calls < MAX_CALLS {
+            match self.pay(1) {
+                Some(next) => Some(next),
+                None => {
+                    self.deepen();
+                    None
+                }
+            }
+        } else {
+            match self.take_answer() {
+                Answer::Done(_) => Some(Next::Going),
+                Answer::Empty => Some(Next::Halt(StopName::CallDepth)),
+            }
         }
     }
 
@@ -238,7 +258,7 @@ impl State {
     pub fn pay_kept(&mut self) -> Valued
         ensures { PaysKept self.old result self.new }
     {
-        match cost(units_in(&self.top().value)) {
+        match string_cost(units_in(&self.top().value)) {
             None => Valued::Value(value_or_undefined(self.take_kept())),
             Some(more) => match self.pay(more + 1) {
                 Some(next) => Valued::Left(next),
@@ -274,7 +294,7 @@ impl State {
             return Ok(Valued::Left(Next::Halt(StopName::StringLength)));
         }
         let text = join(self.alloc(), left, right)?;
-        match cost(units) {
+        match string_cost(units) {
             None => Ok(Valued::Value(Value::Str(text))),
             Some(_) => {
                 self.set_stage(stage);
@@ -285,11 +305,14 @@ impl State {
     }
 }
 
+/// How many calls may be active.
+const MAX_CALLS: u32 = 100_000;
+
 /// The most code units of a string.
 const MAX_UNITS: usize = 16_777_216;
 
 /// What a string of so many code units costs: one step more than this number, or none.
-fn cost(units: usize) -> Option<u64>
+pub fn string_cost(units: usize) -> Option<u64>
     ensures { IsCost units result }
 {
     if units < 256 {

@@ -1,9 +1,9 @@
-ghost use Rattle.std.specs.Prelude.{◌≡◌, ◌∷◌, ◌++◌, [], suc, Some, None, option_map, reverse, OnOk, IfOk, MatchOption};
+ghost use Rattle.std.specs.Prelude.{◌≡◌, ◌<◌, ◌∷◌, ◌++◌, [], suc, Some, None, length, slice_set, option_map, reverse, OnOk, IfOk, MatchOption};
 ghost use Rattle.sr_model.specs.Values.{Object};
 ghost use Rattle.sr_conv.specs.Plain.{value_of, option_of};
 ghost use Rattle.sr_model.specs.Globals.{assigned, accepted, error_made, error_in, global_value, next_object, next_source};
 ghost use Rattle.sr_state.specs.Errors.{name_text, error_of};
-ghost use Rattle.sr_state.specs.Held.{Charges, Begins, first, idle, with_side, line_in, change_in, realm_in, cut_in, answered, topped, staged, keeping, listing, above, below, is_idle};
+ghost use Rattle.sr_state.specs.Held.{Charges, Begins, first, idle, with_side, line_in, change_in, realm_in, cut_in, answered, topped, staged, keeping, listing, numbered, deeper, above, below, is_idle};
 ghost use Rattle.sr_state.specs.Step.{kept_of};
 
 use crate::ends::{Answer, Charge, Next, StopName};
@@ -262,6 +262,21 @@ impl State {
         self.top.stage = stage;
     }
 
+    /// The frame on top is of another source.
+    pub fn set_source(&mut self, source: u32)
+        ensures { self.new ≡ numbered source self.old }
+    {
+        self.top.source = source;
+    }
+
+    /// The frame on top has one more active call.
+    pub fn deepen(&mut self)
+        requires { self.old.top.calls < 100000 }
+        ensures { self.new ≡ deeper self.old }
+    {
+        self.top.calls += 1;
+    }
+
     /// The frame on top keeps this value.
     pub fn keep(&mut self, value: Value)
         ensures { self.new ≡ keeping (Some value) self.old }
@@ -282,6 +297,14 @@ impl State {
         ensures { OnOk result (self.new ≡ listing (self.old.top.list ++ value ∷ []) self.old) }
     {
         self.top.list.push(value)
+    }
+
+    /// In the list of the frame on top this value takes the place of the one at this place, counted from 0.
+    pub fn set_in_list(&mut self, at: usize, value: Value)
+        requires { at < length self.old.top.list }
+        ensures { self.new ≡ listing (slice_set self.old.top.list at value) self.old }
+    {
+        self.top.list.set(at, value);
     }
 
     /// The list of the frame on top, which is taken away.

@@ -1,25 +1,30 @@
 -- From a step of an arm to a step of its tree.
-use Rattle.std.proofs.Common.{◌≡◌, sym, subst, ◌∙◌, ap, ℕ, Option, Result, IfOk}
+use Rattle.std.proofs.Common.{◌≡◌, refl, sym, subst, ap, ◌∙◌, false, Result, IfOk, ℕ}
 use Rattle.std.specs.declared.alloc.AllocError.{AllocError}
 use Rattle.sr_ast.specs.declared.tree.Tree.{Tree}
 use Rattle.sr_ast.specs.declared.tree.Node.{Node, out-Node}
+use Rattle.sr_ast.specs.declared.tree.Element.TheOpen as layer
 use Rattle.sr_ast.specs.Layer.{Layer, layer_of}
 use Rattle.sr_state.specs.Held.{Held}
-use Rattle.sr_state.specs.declared.frame.Frame.{Frame}
+use Rattle.sr_state.specs.Step.{At, StepsWith}
 use Rattle.sr_state.specs.declared.ends.Next.{Next}
-use Rattle.sr_state.specs.Step.{StepsBy}
-use Rattle.sr_stmt.specs.At.{statement_at, choice_at, for_at}
+use Rattle.sr_stmt.specs.Rows.{operation, is_statement}
+use Rattle.sr_stmt.specs.Stages.{layer_at, empty_at, statement_at}
 
--- a step by what a tree is, as a step of the tree
-pub by_layer : (s at : ℕ) (l : Layer) (t : Tree) (d : Node) (r : Result Next AllocError) (f : Frame) (old new : Held) → t.node ≡ d → out-Node d ≡ l → IfOk r (λ n. StepsBy (statement_at s 0 at l) f old n new) → IfOk r (λ n. StepsBy (statement_at s 0 at (layer_of t)) f old n new)
-by_layer s at l t d r f old new e e' h = subst (λ (x : Layer). IfOk r (λ n. StepsBy (statement_at s 0 at x) f old n new)) (sym (ap out-Node e ∙ e')) h
+pub by_layer : (l : Layer) (t : Tree) (r : Result Next AllocError) (old new : Held) {d : Node} → t.node ≡ d → out-Node d ≡ l → IfOk r (λ n. StepsWith operation (layer_at t.from l) old n new) → IfOk r (λ n. StepsWith operation (statement_at t) old n new)
+by_layer l t r old new e e' h = subst (λ (x : Layer). IfOk r (λ n. StepsWith operation (layer_at t.from x) old n new)) (sym (ap out-Node e ∙ e')) h
 
--- the optional parts of `if` and `for`
-pub choice_from : (s at : ℕ) (c a : Tree) (o b : Option Tree) (r : Result Next AllocError) (f : Frame) (old new : Held) → o ≡ b → IfOk r (λ n. StepsBy (choice_at s 0 at c a o) f old n new) → IfOk r (λ n. StepsBy (choice_at s 0 at c a b) f old n new)
-choice_from s at c a o b r f old new e h = subst (λ (x : Option Tree). IfOk r (λ n. StepsBy (choice_at s 0 at c a x) f old n new)) e h
+-- what is no statement that is built
+others : (at : ℕ) (l : Layer) → is_statement l ≡ false → layer_at at l ≡ empty_at at
+others at (layer.Expression t) h = cc
+others at (layer.Directive t) h = cc
+others at (layer.Var ds) h = cc
+others at (layer.Block ts) h = cc
+others at (layer.If c a b) h = cc
+others at (layer.Do body test) h = cc
+others at (layer.While test body) h = cc
+others at (layer.For first test update body) h = cc
+others at l h = refl
 
-pub for_from : (s at : ℕ) (body : Tree) (o b o' b' o'' b'' : Option Tree) (r : Result Next AllocError) (f : Frame) (old new : Held) → o ≡ b → o' ≡ b' → o'' ≡ b'' → IfOk r (λ n. StepsBy (for_at s 0 at o o' o'' body) f old n new) → IfOk r (λ n. StepsBy (for_at s 0 at b b' b'' body) f old n new)
-for_from s at body o b o' b' o'' b'' r f old new e e' e'' h =
-    subst (λ (x : Option Tree). IfOk r (λ n. StepsBy (for_at s 0 at b b' x body) f old n new)) e''
-    (subst (λ (x : Option Tree). IfOk r (λ n. StepsBy (for_at s 0 at b x o'' body) f old n new)) e'
-    (subst (λ (x : Option Tree). IfOk r (λ n. StepsBy (for_at s 0 at x o' o'' body) f old n new)) e h))
+pub by_other : (t : Tree) (n : Next) (old new : Held) → StepsWith operation (empty_at t.from) old n new → is_statement (layer_of t) ≡ false → StepsWith operation (statement_at t) old n new
+by_other t n old new h e = subst (λ (x : At). StepsWith operation x old n new) (sym (others t.from (layer_of t) e)) h

@@ -43,6 +43,18 @@ tree_or (Some t) body = t
 abbrev pub value_after : Option Value → Value → Value
 value_after w v = value_in (update_empty w (Some v))
 
+-- goes on with the value so far, after a part with this value
+abbrev pub updated : (Option Value → Steps) → Option Value → Option Value → Steps
+updated k v w = k (update_empty w v)
+
+-- gives a name a value, and goes on
+abbrev pub put_then : Text → Steps → Value → Steps
+put_then x k v = Change (assigned x v) k
+
+-- goes on whatever the value is
+abbrev pub anyway : Steps → Option Value → Steps
+anyway k v = k
+
 module _ (s e : ℕ) where
   -- 14.5: the value of the expression
   abbrev pub expression : ℕ → Tree → Steps
@@ -51,7 +63,7 @@ module _ (s e : ℕ) where
   -- 14.3.2: the declarations in order. One without a value does nothing, since the name is declared before the script runs
   abbrev pub declare_one : Text → Option Tree → Steps → Steps
   declare_one x None k = k
-  declare_one x (Some t) k = valued s e t (λ v. Change (assigned x v) k)
+  declare_one x (Some t) k = valued s e t (put_then x k)
 
   abbrev pub declare : List Declaration → Steps
   declare [] = Give (Normal None)
@@ -63,7 +75,7 @@ module _ (s e : ℕ) where
   -- 14.2.2: the statements in order. Their value is that of the last one that has a value
   abbrev pub statements : List Tree → Option Value → Steps
   statements [] v = Give (Normal v)
-  statements (t ∷ ts) v = evaluated s e t (λ w. statements ts (update_empty w v))
+  statements (t ∷ ts) v = evaluated s e t (updated (statements ts) v)
 
   abbrev pub block : ℕ → List Tree → Steps
   block at ts = begin s e at (statements ts None)
@@ -87,8 +99,11 @@ module _ (s e : ℕ) where
   abbrev pub again : Loop → Place → Value → Steps
   again l place v = Become (Operate (Repeat s e l place v))
 
+  abbrev pub turned : Loop → Value → Option Value → Steps
+  turned l v w = again l (after_body l.update l.test) (value_after w v)
+
   abbrev pub turn : Loop → Value → Steps
-  turn l v = evaluated s e l.body (λ w. again l (after_body l.update l.test) (value_after w v))
+  turn l v = evaluated s e l.body (turned l v)
 
   abbrev pub tested : Loop → Value → Value → Steps
   tested l v x = either (to_boolean x) (turn l v) (give_value v)
@@ -96,7 +111,7 @@ module _ (s e : ℕ) where
   abbrev pub loop : Loop → Place → Value → Steps
   loop l Test v = valued s e (tree_or l.test l.body) (tested l v)
   loop l Body v = turn l v
-  loop l Update v = evaluated s e (tree_or l.update l.body) (λ w. again l (at_test l.test) v)
+  loop l Update v = evaluated s e (tree_or l.update l.body) (anyway (again l (at_test l.test) v))
 
   -- `do`: the body comes first
   abbrev pub do_loop : ℕ → Tree → Tree → Steps
@@ -109,7 +124,7 @@ module _ (s e : ℕ) where
   -- `for`: what comes first, and the loop
   abbrev pub for_first : Option Tree → Steps → Steps
   for_first None k = k
-  for_first (Some t) k = evaluated s e t (λ v. k)
+  for_first (Some t) k = evaluated s e t (anyway k)
 
   abbrev pub for_loop : ℕ → Option Tree → Loop → Steps
   for_loop at first l = begin s e at (for_first first (loop l (at_test l.test) (Simple Undefined)))

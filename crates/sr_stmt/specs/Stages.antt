@@ -1,6 +1,6 @@
 -- A device of the proof: what a frame of a statement or a source stands for at each stage. At stage 0 it is the row. Nobody who reads the
 -- language needs this file.
-use Rattle.std.specs.Prelude.{ℕ, zero, suc, List, [], ◌∷◌, Option, None, Some, drop}
+use Rattle.std.specs.Prelude.{ℕ, ◌/◌, zero, suc, List, [], ◌∷◌, Option, None, Some, drop}
 use Rattle.sr_ast.specs.declared.tree.Tree.{Tree}
 use Rattle.sr_ast.specs.declared.tree.Declaration.{Declaration, out-Declaration}
 use Rattle.sr_ast.specs.declared.tree.Element.TheOpen as layer
@@ -10,17 +10,16 @@ use Rattle.sr_ast.specs.declared.reading.Reading.TheVariants as reading
 use Rattle.sr_ast.specs.declared.reading.SourceCode.{SourceCode}
 use Rattle.sr_model.specs.Values.{Text, Value, Simple, Undefined}
 use Rattle.sr_model.specs.Outcomes.{Normal}
-use Rattle.sr_model.specs.Scripts.{Give, Change}
-use Rattle.sr_model.specs.Globals.{assigned}
+use Rattle.sr_model.specs.Scripts.{Give, Pay}
 use Rattle.sr_state.specs.Work.{Steps, Loop}
 use Rattle.sr_state.specs.Step.{Given, At}
 use Rattle.sr_state.specs.Trees.{value_in, give_value, throw_error, evaluated_at, valued_at}
-use Rattle.sr_stmt.specs.Rows.{update_empty, at_test, after_body, tree_or, value_after, expression, declare, variables, statements, block, empty, chosen, choice, again, turn, tested, loop, do_loop, while_loop, for_loop, read_source, source}
+use Rattle.sr_stmt.specs.Rows.{updated, put_then, anyway, at_test, tree_or, expression, declare, variables, statements, block, empty, chosen, choice, again, turned, tested, loop, do_loop, while_loop, for_loop, read_text, source}
 
--- the declarations that are left, of which the first is under way where it has a value
+-- the declarations that are left, of which the first has a value and is under way
 abbrev pub declare_one_at : ℕ → Given → Text → Option Tree → Steps → Steps
-declare_one_at s g x None k = k
-declare_one_at s g x (Some t) k = valued_at s 0 g t (λ v. Change (assigned x v) k)
+declare_one_at s g x None k = throw_error
+declare_one_at s g x (Some t) k = valued_at s 0 g t (put_then x k)
 
 abbrev pub declare_at : ℕ → Given → List Declaration → Steps
 declare_at s g [] = Give (Normal None)
@@ -29,7 +28,7 @@ declare_at s g (d ∷ ds) = (let o = out-Declaration d in declare_one_at s g o.n
 -- the statements that are left, of which the first is under way, with the value so far
 abbrev pub statements_at : ℕ → Given → List Tree → Option Value → Steps
 statements_at s g [] v = Give (Normal v)
-statements_at s g (t ∷ ts) v = evaluated_at s 0 g t (λ w. statements s 0 ts (update_empty w v))
+statements_at s g (t ∷ ts) v = evaluated_at s 0 g t (updated (statements s 0 ts) v)
 
 abbrev pub branch_at : ℕ → Given → Option Tree → Steps
 branch_at s g None = give_value (Simple Undefined)
@@ -37,12 +36,12 @@ branch_at s g (Some t) = valued_at s 0 g t give_value
 
 -- a loop is at its condition at stage 1, at its body at stage 2, and after a turn at stage 3; `for` is at what comes first at stage 4.
 -- The value so far is kept
-abbrev pub loop_at : Loop → Steps → (Given → Steps) → At
-loop_at l row first s zero kept g = row
+abbrev pub loop_at : Loop → (ℕ → Steps) → (ℕ → Given → Steps) → At
+loop_at l row first s zero kept g = row s
 loop_at l row first s (suc zero) kept g = valued_at s 0 g (tree_or l.test l.body) (tested s 0 l (value_in kept.value))
-loop_at l row first s (suc (suc zero)) kept g = evaluated_at s 0 g l.body (λ w. again s 0 l (after_body l.update l.test) (value_after w (value_in kept.value)))
-loop_at l row first s (suc (suc (suc zero))) kept g = evaluated_at s 0 g (tree_or l.update l.body) (λ w. again s 0 l (at_test l.test) (value_in kept.value))
-loop_at l row first s (suc (suc (suc (suc n)))) kept g = first g
+loop_at l row first s (suc (suc zero)) kept g = evaluated_at s 0 g l.body (turned s 0 l (value_in kept.value))
+loop_at l row first s (suc (suc (suc zero))) kept g = evaluated_at s 0 g (tree_or l.update l.body) (anyway (again s 0 l (at_test l.test) (value_in kept.value)))
+loop_at l row first s (suc (suc (suc (suc n)))) kept g = first s g
 
 module _ (at : ℕ) where
   abbrev pub expression_at : Tree → At
@@ -70,17 +69,17 @@ module _ (at : ℕ) where
   choice_at c a b s (suc (suc (suc n))) kept g = branch_at s g b
 
   abbrev pub do_at : Tree → Tree → At
-  do_at body test s n kept g = loop_at (record { test = Some test; update = None; body = body }) (do_loop s 0 at body test) (λ g. throw_error) s n kept g
+  do_at body test = loop_at (record { test = Some test; update = None; body = body }) (λ s. do_loop s 0 at body test) (λ s g. throw_error)
 
   abbrev pub while_at : Tree → Tree → At
-  while_at test body s n kept g = loop_at (record { test = Some test; update = None; body = body }) (while_loop s 0 at test body) (λ g. throw_error) s n kept g
+  while_at test body = loop_at (record { test = Some test; update = None; body = body }) (λ s. while_loop s 0 at test body) (λ s g. throw_error)
 
-  abbrev pub first_at : ℕ → Option Tree → Loop → Given → Steps
-  first_at s None l g = throw_error
-  first_at s (Some t) l g = evaluated_at s 0 g t (λ v. loop s 0 l (at_test l.test) (Simple Undefined))
+  abbrev pub first_at : Option Tree → Loop → ℕ → Given → Steps
+  first_at None l s g = throw_error
+  first_at (Some t) l s g = evaluated_at s 0 g t (anyway (loop s 0 l (at_test l.test) (Simple Undefined)))
 
   abbrev pub for_at : Option Tree → Loop → At
-  for_at first l s n kept g = loop_at l (for_loop s 0 at first l) (first_at s first l) s n kept g
+  for_at first l = loop_at l (λ s. for_loop s 0 at first l) (first_at first l)
 
   abbrev pub layer_at : Layer → At
   layer_at (layer.Expression t) = expression_at t
@@ -102,8 +101,13 @@ abbrev pub script_at : Reading → ℕ → ℕ → Given → Option Value → St
 script_at (reading.Script x) s n g v = statements_at s g (drop n x.body) v
 script_at (reading.Refused e) s n g v = throw_error
 
+-- a text that is to be paid, since it costs something
+abbrev pub paid_at : ℕ → Steps → Steps
+paid_at zero k = throw_error
+paid_at (suc c) k = Pay c k
+
 -- at stage 1 the text is to be paid, and at stage n + 2 the n-th statement is under way
 abbrev pub source_at : SourceCode → At
 source_at x s zero kept g = source x
-source_at x s (suc zero) kept g = read_source x
+source_at x s (suc zero) kept g = paid_at (x.units / 256) (read_text x.reading)
 source_at x s (suc (suc n)) kept g = script_at x.reading s n g kept.value

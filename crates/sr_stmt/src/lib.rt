@@ -1,21 +1,24 @@
-//! The steps of statements and sources.
+//! The steps of statements and sources (ECMA-262 14, 16.1).
 #![tactic(auto)]
 
-/// A step of `if`.
+/// Conditions.
 mod choice;
-/// A step, by what the frame carries out.
-mod dispatch;
-/// A step of `var`.
-mod variables;
+/// The step of the frame on top, by the kind of its tree.
+mod kinds;
 /// Statements in order.
 mod lists;
-/// A step of a loop.
+/// Loops.
 mod loops;
-/// What the arms have in common.
-mod parts;
-/// A step of a source.
+/// How far lists are carried out.
+mod places;
+/// Sources.
 mod scripts;
-/// A step of a statement that is no list and no loop.
+/// Statements without statements in them.
 mod simple;
+/// What the arms have in common.
+mod turns;
+/// Declarations of `var`.
+mod variables;
 
-pub use dispatch::step;
+pub use kinds::{is_statement, step};
+pub use scripts::step_source;

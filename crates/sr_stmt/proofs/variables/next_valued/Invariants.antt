@@ -1,6 +1,0 @@
-use Rattle.std.proofs.Common.{◌≡◌, ℕ, drop}
-use Rattle.sr_stmt.specs.Rows.{declare}
-use Rattle.sr_stmt.proofs.variables.next_valued.Given as goal
-
-abbrev pub invariant-loop-place : goal.invariant-loop-place
-invariant-loop-place l = (s : ℕ) → declare s 0 (drop l.fn.from l.declarations) ≡ declare s 0 (drop l.place l.declarations)
