@@ -1,3 +1,4 @@
+use crate::memory::files_of;
 use sr_ast::{Reading, Refused, SourceCode};
 use sr_command::shadow_run;
 use sr_machine::{Advance, Live};
@@ -5,109 +6,28 @@ use sr_outside::{MapLoader, SureSink, VecSink};
 use std::alloc::{AllocError, Global};
 use std::test::Fail;
 
-/// A call of the command in a folder that holds `a.js`, which prints `1` and `2`, with the numbers of the loads and writes
-/// that fail.
-struct Call {
-    words: &'static [&'static str],
-    failing_loads: &'static [u64],
-    failing_out: &'static [u64],
-    failing_err: &'static [u64],
-    out: &'static [u8],
-    err: &'static [u8],
-    status: u8,
-}
+/// The numbers of the loads that fail, of the writes on the output, and of those on the errors.
+type Faults = (&'static [u64], &'static [u64], &'static [u64]);
 
-const CALLS: &[Call] = &[
-    Call {
-        words: &["a.js"],
-        failing_loads: &[],
-        failing_out: &[2],
-        failing_err: &[],
-        out: b"1\n",
-        err: b"write failed\n",
-        status: 7,
-    },
-    Call {
-        words: &["a.js"],
-        failing_loads: &[],
-        failing_out: &[1],
-        failing_err: &[1],
-        out: b"",
-        err: b"",
-        status: 7,
-    },
-    Call {
-        words: &["a.js"],
-        failing_loads: &[],
-        failing_out: &[3],
-        failing_err: &[],
-        out: b"1\n2\n",
-        err: b"",
-        status: 0,
-    },
-    Call {
-        words: &["a.js"],
-        failing_loads: &[1],
-        failing_out: &[],
-        failing_err: &[],
-        out: b"",
-        err: b"read failed: a.js\n",
-        status: 6,
-    },
-    Call {
-        words: &["a.js"],
-        failing_loads: &[2],
-        failing_out: &[],
-        failing_err: &[],
-        out: b"1\n2\n",
-        err: b"",
-        status: 0,
-    },
-    Call {
-        words: &["a.js"],
-        failing_loads: &[1],
-        failing_out: &[],
-        failing_err: &[1],
-        out: b"",
-        err: b"write failed\n",
-        status: 7,
-    },
-    Call {
-        words: &["z.js"],
-        failing_loads: &[],
-        failing_out: &[],
-        failing_err: &[1],
-        out: b"",
-        err: b"write failed\n",
-        status: 7,
-    },
-    Call {
-        words: &["broken.js"],
-        failing_loads: &[],
-        failing_out: &[],
-        failing_err: &[1],
-        out: b"",
-        err: b"write failed\n",
-        status: 7,
-    },
-    Call {
-        words: &[],
-        failing_loads: &[],
-        failing_out: &[],
-        failing_err: &[1, 2],
-        out: b"",
-        err: b"",
-        status: 7,
-    },
-    Call {
-        words: &["b/a.js"],
-        failing_loads: &[1],
-        failing_out: &[],
-        failing_err: &[],
-        out: b"",
-        err: b"not built: b/a.js\n",
-        status: 9,
-    },
+/// What is written on the output and on the errors, and the status.
+type Ending = (&'static str, &'static str, u8);
+
+/// The words of calls of the command, the faults, and the ending.
+const CALLS: [(&[&str], Faults, Ending); 10] = [
+    (&["a.js"], (&[], &[2], &[]), ("1\n", "write failed\n", 7)),
+    (&["a.js"], (&[], &[1], &[1]), ("", "", 7)),
+    (&["a.js"], (&[], &[3], &[]), ("1\n2\n", "", 0)),
+    (&["a.js"], (&[1], &[], &[]), ("", "read failed: a.js\n", 6)),
+    (&["a.js"], (&[2], &[], &[]), ("1\n2\n", "", 0)),
+    (&["a.js"], (&[1], &[], &[1]), ("", "write failed\n", 7)),
+    (&["z.js"], (&[], &[], &[1]), ("", "write failed\n", 7)),
+    (&["broken.js"], (&[], &[], &[1]), ("", "write failed\n", 7)),
+    (&[], (&[], &[], &[1, 2]), ("", "", 7)),
+    (
+        &["b/a.js"],
+        (&[1], &[], &[]),
+        ("", "not built: b/a.js\n", 9),
+    ),
 ];
 
 /// The files that every call finds.
@@ -124,28 +44,19 @@ fn words_of(alloc: Global, words: &[&str]) -> Result<Vec<String>, AllocError> {
     Ok(all)
 }
 
-fn files(alloc: Global) -> Result<Vec<(Vec<u8>, Vec<u8>)>, AllocError> {
-    let mut files = Vec::new(alloc);
-    for (name, text) in FILES {
-        let name = Vec::from_slice(alloc, name.as_bytes())?;
-        files.push((name, Vec::from_slice(alloc, text.as_bytes())?))?;
-    }
-    Ok(files)
-}
-
 #[test]
 fn calls_with_failing_loads_and_writes(rt: HostRuntime) -> Result<(), Fail> {
     let alloc = rt.alloc();
-    for call in CALLS {
-        let words = words_of(alloc, call.words)?;
-        let failing = Vec::from_slice(alloc, call.failing_loads)?;
-        let mut loader = MapLoader::of(alloc, files(alloc)?, failing);
-        let mut out = VecSink::of(alloc, Vec::from_slice(alloc, call.failing_out)?);
-        let mut err = VecSink::of(alloc, Vec::from_slice(alloc, call.failing_err)?);
+    for (words, (loads, writes, error_writes), (printed, errors, wanted)) in CALLS {
+        let words = words_of(alloc, words)?;
+        let files = files_of(alloc, &FILES)?;
+        let mut loader = MapLoader::of(alloc, files, Vec::from_slice(alloc, loads)?);
+        let mut out = VecSink::of(alloc, Vec::from_slice(alloc, writes)?);
+        let mut err = VecSink::of(alloc, Vec::from_slice(alloc, error_writes)?);
         let status = shadow_run(alloc, &words, &mut loader, &mut out, &mut err);
-        assert_eq!(rt; out.bytes(), call.out);
-        assert_eq!(rt; err.bytes(), call.err);
-        assert_eq!(rt; status, call.status);
+        assert_eq!(rt; out.bytes(), printed.as_bytes());
+        assert_eq!(rt; err.bytes(), errors.as_bytes());
+        assert_eq!(rt; status, wanted);
     }
     Ok(())
 }

@@ -4,6 +4,9 @@
 /// Calls of the command, and runs.
 #[cfg(test)]
 mod calls;
+/// Files in memory.
+#[cfg(test)]
+mod memory;
 /// Loaders and sinks.
 #[cfg(test)]
 mod outside;

@@ -1,8 +1,9 @@
+use crate::memory::files_of;
 use sr_outside::{
     Bytes, DirLoader, ErrSink, Loaded, Loader, MapLoader, OutSink, Sink, SureLoader, SureSink,
     VecSink, WriteRefusal,
 };
-use std::alloc::{AllocError, Global};
+use std::alloc::Global;
 use std::io::{ErrorKind, Write};
 use std::process::Abort;
 use std::test::Fail;
@@ -22,15 +23,6 @@ const LOADS: [(&str, &str, &str); 6] = [
     ("c.js", "-", "-"),
 ];
 
-fn files(alloc: Global) -> Result<Vec<(Vec<u8>, Vec<u8>)>, AllocError> {
-    let mut files = Vec::new(alloc);
-    for (name, text) in FILES {
-        let name = Vec::from_slice(alloc, name.as_bytes())?;
-        files.push((name, Vec::from_slice(alloc, text.as_bytes())?))?;
-    }
-    Ok(files)
-}
-
 /// An answer as text, as the tables write it.
 fn shown(answer: &Loaded) -> &[u8] {
     match answer {
@@ -43,8 +35,9 @@ fn shown(answer: &Loaded) -> &[u8] {
 #[test]
 fn loaders_in_memory(rt: HostRuntime) -> Result<(), Fail> {
     let alloc = rt.alloc();
-    let mut sure = SureLoader::of(alloc, files(alloc)?);
-    let mut failing = MapLoader::of(alloc, files(alloc)?, vec![in alloc; 2, 4]?);
+    let mut sure = SureLoader::of(alloc, files_of(alloc, &FILES)?);
+    let files = files_of(alloc, &FILES)?;
+    let mut failing = MapLoader::of(alloc, files, vec![in alloc; 2, 4]?);
     for (name, wanted, wanted_or_failed) in LOADS {
         let loaded = sure.load(name.as_bytes())?;
         assert_eq!(rt; shown(&loaded), wanted.as_bytes());
