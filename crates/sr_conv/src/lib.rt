@@ -13,6 +13,3 @@ mod operators;
 pub use answers::{Computed, Operated, Stepped};
 pub use conversions::{to_boolean, to_number, to_text};
 pub use operators::{operate, operate_one, shown, step_number};
-
-#[cfg(test)]
-mod tests;

@@ -11,6 +11,3 @@ mod value;
 pub use equality::{same_value, same_value_zero, strict_equal};
 pub use symbol::{MadeNumber, Symbol, WellKnown};
 pub use value::{Key, Value};
-
-#[cfg(test)]
-mod tests;
