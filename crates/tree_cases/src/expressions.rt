@@ -1,7 +1,7 @@
 //! Expressions in short.
 
 use crate::functions::put_function;
-use crate::trees::{open, put_both, put_only, put_parts, put_tree, put_trees};
+use crate::trees::{open, put_last, put_part, put_parts, put_tree, put_trees};
 use crate::words::{put_link, put_number, put_properties, put_quoted, put_texts};
 use source_tables::put_units;
 use sr_ast::{AssignOp, Element, Node, Property};
@@ -19,28 +19,32 @@ pub fn put_operation(out: &mut String, node: &Node) -> Result<(), AllocError> {
         }
         Node::Assign(op, target, value, named) => {
             put_assignment(out, *op, *named)?;
-            put_both(out, target, value)
+            put_part(out, target)?;
+            put_last(out, value)
         }
         Node::Cond(test, yes, no) => {
-            out.push_str("(cond ")?;
-            put_tree(out, test.get())?;
-            put_both(out, yes, no)
+            out.push_str("(cond")?;
+            put_part(out, test)?;
+            put_part(out, yes)?;
+            put_last(out, no)
         }
         Node::Logical(op, left, right) => {
             write!(out, "({op:?}")?;
-            put_both(out, left, right)
+            put_part(out, left)?;
+            put_last(out, right)
         }
         Node::Binary(op, left, right) => {
             write!(out, "({op:?}")?;
-            put_both(out, left, right)
+            put_part(out, left)?;
+            put_last(out, right)
         }
         Node::Unary(op, operand) => {
             write!(out, "({op:?}")?;
-            put_only(out, operand)
+            put_last(out, operand)
         }
         Node::Update(op, target) => {
             write!(out, "({op:?}")?;
-            put_only(out, target)
+            put_last(out, target)
         }
         _ => put_access(out, node),
     }
@@ -58,8 +62,7 @@ fn put_elements(out: &mut String, elements: &[Element]) -> Result<(), AllocError
     for element in elements {
         match element {
             Element::Value(tree) => {
-                out.push_str(" ")?;
-                put_tree(out, tree.get())?;
+                put_part(out, tree)?;
             }
             Element::Spread(tree) => {
                 out.push_str(" ...")?;
@@ -80,29 +83,30 @@ fn put_access(out: &mut String, node: &Node) -> Result<(), AllocError> {
             put_link(out, *link)?;
             out.push_str(".")?;
             put_units(out, name.units())?;
-            put_only(out, object)
+            put_last(out, object)
         }
         Node::Index(link, object, key) => {
             out.push_str("(")?;
             put_link(out, *link)?;
             out.push_str("index")?;
-            put_both(out, object, key)
+            put_part(out, object)?;
+            put_last(out, key)
         }
         Node::Call(link, callee, arguments) => {
             out.push_str("(")?;
             put_link(out, *link)?;
-            out.push_str("call ")?;
-            put_tree(out, callee.get())?;
+            out.push_str("call")?;
+            put_part(out, callee)?;
             put_elements(out, arguments.as_slice())?;
             out.push_str(")")
         }
         Node::New(callee, None) => {
             out.push_str("(new")?;
-            put_only(out, callee)
+            put_last(out, callee)
         }
         Node::New(callee, Some(arguments)) => {
-            out.push_str("(new() ")?;
-            put_tree(out, callee.get())?;
+            out.push_str("(new()")?;
+            put_part(out, callee)?;
             put_elements(out, arguments.as_slice())?;
             out.push_str(")")
         }
@@ -116,14 +120,11 @@ fn put_values(out: &mut String, properties: &[Property]) -> Result<(), AllocErro
     for property in properties {
         match property {
             Property::Computed(name, value) => {
-                out.push_str(" ")?;
-                put_tree(out, name.get())?;
-                out.push_str(" ")?;
-                put_tree(out, value.get())?;
+                put_part(out, name)?;
+                put_part(out, value)?;
             }
             Property::Named(_, part) | Property::Spread(part) | Property::Method(part) => {
-                out.push_str(" ")?;
-                put_tree(out, part.get())?;
+                put_part(out, part)?;
             }
         }
     }

@@ -1,7 +1,7 @@
 //! Functions in short.
 
 use crate::statements::put_statement;
-use crate::trees::{open, put_only, put_parts, put_tree, put_trees};
+use crate::trees::{open, put_last, put_part, put_parts, put_trees};
 use crate::words::{put_binding, put_binding_after, put_key, put_parameters};
 use sr_ast::{Binding, Node, Parameters, Tree};
 use sr_shared::Shared;
@@ -36,8 +36,7 @@ fn put_method(out: &mut String, node: &Node) -> Result<(), AllocError> {
         Node::ComputedMethod(name, parameters, body) => {
             out.push_str("(method[]")?;
             put_parameters(out, parameters)?;
-            out.push_str(" ")?;
-            put_tree(out, name.get())?;
+            put_part(out, name)?;
             put_trees(out, body.as_slice())?;
             out.push_str(")")
         }
@@ -77,7 +76,7 @@ pub fn put_function(out: &mut String, node: &Node) -> Result<(), AllocError> {
         Node::ExpressionArrow(parameters, value) => {
             out.push_str("(arrow")?;
             put_parameters(out, parameters)?;
-            put_only(out, value)
+            put_last(out, value)
         }
         _ => put_method(out, node),
     }

@@ -1,6 +1,6 @@
 //! Imports and exports in short.
 
-use crate::trees::put_only;
+use crate::trees::put_last;
 use crate::words::{put_binding_after, put_exports, put_imports, put_quoted};
 use sr_ast::{ExportName, Node};
 use sr_text::Str;
@@ -38,11 +38,11 @@ pub fn put_module_item(out: &mut String, node: &Node) -> Result<(), AllocError> 
         Node::ExportNames(names, module) => put_export_names(out, names.as_slice(), module),
         Node::Export(part) => {
             out.push_str("(export")?;
-            put_only(out, part)
+            put_last(out, part)
         }
         Node::ExportDefault(part) => {
             out.push_str("(default")?;
-            put_only(out, part)
+            put_last(out, part)
         }
         _ => out.push_str("another node"),
     }

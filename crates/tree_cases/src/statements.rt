@@ -1,7 +1,7 @@
 //! Statements in short.
 
 use crate::modules::put_module_item;
-use crate::trees::{open, put_both, put_if_there, put_only, put_parts, put_tree, put_trees};
+use crate::trees::{open, put_if_there, put_last, put_part, put_parts, put_trees};
 use crate::words::{put_binding_after, put_declared, put_head, put_label};
 use source_tables::put_units;
 use sr_ast::{Case, Declaration, LexicalKind, Node, Tree};
@@ -49,11 +49,11 @@ fn put_jump(out: &mut String, node: &Node) -> Result<(), AllocError> {
         Node::Return(None) => out.push_str("return"),
         Node::Return(Some(value)) => {
             out.push_str("(return")?;
-            put_only(out, value)
+            put_last(out, value)
         }
         Node::Throw(value) => {
             out.push_str("(throw")?;
-            put_only(out, value)
+            put_last(out, value)
         }
         _ => put_loop(out, node),
     }
@@ -69,24 +69,22 @@ fn put_compound(out: &mut String, node: &Node) -> Result<(), AllocError> {
             put_parts(out, parts.as_slice())
         }
         Node::If(test, yes, no) => {
-            out.push_str("(if ")?;
-            put_tree(out, test.get())?;
-            out.push_str(" ")?;
-            put_tree(out, yes.get())?;
+            out.push_str("(if")?;
+            put_part(out, test)?;
+            put_part(out, yes)?;
             put_if_there(out, " ", no)?;
             out.push_str(")")
         }
         Node::Switch(value, cases) => {
-            out.push_str("(switch ")?;
-            put_tree(out, value.get())?;
+            out.push_str("(switch")?;
+            put_part(out, value)?;
             put_cases(out, cases.as_slice())?;
             out.push_str(")")
         }
         Node::Try(body, parameter, handler, last) => {
             out.push_str("(try")?;
             put_binding_after(out, ":", parameter)?;
-            out.push_str(" ")?;
-            put_tree(out, body.get())?;
+            put_part(out, body)?;
             put_if_there(out, " catch ", handler)?;
             put_if_there(out, " finally ", last)?;
             out.push_str(")")
@@ -94,7 +92,7 @@ fn put_compound(out: &mut String, node: &Node) -> Result<(), AllocError> {
         Node::Labelled(label, body) => {
             out.push_str("(label:")?;
             put_units(out, label.units())?;
-            put_only(out, body)
+            put_last(out, body)
         }
         _ => put_jump(out, node),
     }
@@ -106,11 +104,11 @@ pub fn put_statement(out: &mut String, node: &Node) -> Result<(), AllocError> {
     match node {
         Node::Expression(part) => {
             out.push_str("(expression")?;
-            put_only(out, part)
+            put_last(out, part)
         }
         Node::Directive(part) => {
             out.push_str("(directive")?;
-            put_only(out, part)
+            put_last(out, part)
         }
         Node::Var(declarations) => put_declarations(out, "(var", declarations.as_slice()),
         Node::Lexical(LexicalKind::Let, declarations) => {
@@ -144,22 +142,26 @@ fn put_iteration(out: &mut String, node: &Node) -> Result<(), AllocError> {
         Node::ForIn(head, object, body) => {
             out.push_str("(for-in")?;
             put_head(out, head)?;
-            put_both(out, object, body)
+            put_part(out, object)?;
+            put_last(out, body)
         }
         Node::ForOf(head, iterated, body) => {
             out.push_str("(for-of")?;
             put_head(out, head)?;
-            put_both(out, iterated, body)
+            put_part(out, iterated)?;
+            put_last(out, body)
         }
         Node::ForInTarget(target, object, body) => {
-            out.push_str("(for-in ")?;
-            put_tree(out, target.get())?;
-            put_both(out, object, body)
+            out.push_str("(for-in")?;
+            put_part(out, target)?;
+            put_part(out, object)?;
+            put_last(out, body)
         }
         Node::ForOfTarget(target, iterated, body) => {
-            out.push_str("(for-of ")?;
-            put_tree(out, target.get())?;
-            put_both(out, iterated, body)
+            out.push_str("(for-of")?;
+            put_part(out, target)?;
+            put_part(out, iterated)?;
+            put_last(out, body)
         }
         _ => put_module_item(out, node),
     }
@@ -171,11 +173,13 @@ fn put_loop(out: &mut String, node: &Node) -> Result<(), AllocError> {
     match node {
         Node::Do(body, test) => {
             out.push_str("(do")?;
-            put_both(out, body, test)
+            put_part(out, body)?;
+            put_last(out, test)
         }
         Node::While(test, body) => {
             out.push_str("(while")?;
-            put_both(out, test, body)
+            put_part(out, test)?;
+            put_last(out, body)
         }
         Node::For(first, test, step, body) => {
             out.push_str("(for")?;
@@ -183,7 +187,7 @@ fn put_loop(out: &mut String, node: &Node) -> Result<(), AllocError> {
             put_if_there(out, " ", first)?;
             put_if_there(out, " ", test)?;
             put_if_there(out, " ", step)?;
-            put_only(out, body)
+            put_last(out, body)
         }
         _ => put_iteration(out, node),
     }

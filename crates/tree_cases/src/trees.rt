@@ -15,8 +15,7 @@ pub fn put_tree(out: &mut String, tree: &Tree) -> Result<(), AllocError> {
 #[cycle(print)]
 pub fn put_trees(out: &mut String, trees: &[Shared<Tree>]) -> Result<(), AllocError> {
     for tree in trees {
-        out.push_str(" ")?;
-        put_tree(out, tree.get())?;
+        put_part(out, tree)?;
     }
     Ok(())
 }
@@ -37,24 +36,18 @@ pub fn put_if_there(
     }
 }
 
-/// Puts the only part of a tree at the end, and closes it.
+/// Puts a part of a tree at the end, behind a space.
 #[cycle(print)]
-pub fn put_only(out: &mut String, part: &Shared<Tree>) -> Result<(), AllocError> {
+pub fn put_part(out: &mut String, part: &Shared<Tree>) -> Result<(), AllocError> {
     out.push_str(" ")?;
-    put_tree(out, part.get())?;
-    out.push_str(")")
+    put_tree(out, part.get())
 }
 
-/// Puts the two parts of a tree at the end, and closes it.
+/// Puts the last part of a tree at the end, and closes it.
 #[cycle(print)]
-pub fn put_both(
-    out: &mut String,
-    first: &Shared<Tree>,
-    second: &Shared<Tree>,
-) -> Result<(), AllocError> {
-    out.push_str(" ")?;
-    put_tree(out, first.get())?;
-    put_only(out, second)
+pub fn put_last(out: &mut String, part: &Shared<Tree>) -> Result<(), AllocError> {
+    put_part(out, part)?;
+    out.push_str(")")
 }
 
 /// Opens a tree that has parts.
