@@ -61,9 +61,7 @@ fn put_assignment(out: &mut String, op: AssignOp, named: bool) -> Result<(), All
 fn put_elements(out: &mut String, elements: &[Element]) -> Result<(), AllocError> {
     for element in elements {
         match element {
-            Element::Value(tree) => {
-                put_part(out, tree)?;
-            }
+            Element::Value(tree) => put_part(out, tree)?,
             Element::Spread(tree) => {
                 out.push_str(" ...")?;
                 put_tree(out, tree.get())?;
@@ -124,7 +122,7 @@ fn put_values(out: &mut String, properties: &[Property]) -> Result<(), AllocErro
                 put_part(out, value)?;
             }
             Property::Named(_, part) | Property::Spread(part) | Property::Method(part) => {
-                put_part(out, part)?;
+                put_part(out, part)?
             }
         }
     }

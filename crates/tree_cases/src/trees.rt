@@ -15,7 +15,8 @@ pub fn put_tree(out: &mut String, tree: &Tree) -> Result<(), AllocError> {
 #[cycle(print)]
 pub fn put_trees(out: &mut String, trees: &[Shared<Tree>]) -> Result<(), AllocError> {
     for tree in trees {
-        put_part(out, tree)?;
+        out.push_str(" ")?;
+        put_tree(out, tree.get())?;
     }
     Ok(())
 }
