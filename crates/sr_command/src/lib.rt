@@ -14,6 +14,3 @@ mod words;
 
 pub use status::Status;
 pub use top::shadow_run;
-
-#[cfg(test)]
-mod tests;

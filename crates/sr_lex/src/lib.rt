@@ -27,6 +27,3 @@ mod units;
 pub use failures::failure_marker;
 pub use reading::{lex, lex_to_failure, number_value, string_value, template_value, token_text};
 pub use token::{LexRefusal, Lexed, Token, TokenKind};
-
-#[cfg(test)]
-mod tests;

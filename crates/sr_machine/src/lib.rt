@@ -7,6 +7,3 @@ mod live;
 mod reports;
 
 pub use live::{Advance, Live, StopAt};
-
-#[cfg(test)]
-mod tests;

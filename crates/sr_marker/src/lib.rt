@@ -16,6 +16,3 @@ mod tokens;
 pub use places::place_marker;
 pub use refusals::{least_of, refusal_at};
 pub use tokens::token_marker;
-
-#[cfg(test)]
-mod tests;

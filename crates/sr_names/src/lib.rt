@@ -9,5 +9,3 @@ pub mod places;
 pub mod scopes;
 /// Strict mode code.
 pub mod strictness;
-#[cfg(test)]
-mod tests;

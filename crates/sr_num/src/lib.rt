@@ -20,6 +20,3 @@ mod stop;
 pub use num::Num;
 pub use reading::read_number;
 pub use stop::NumStop;
-
-#[cfg(test)]
-mod tests;

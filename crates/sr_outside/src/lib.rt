@@ -26,6 +26,3 @@ pub use memory_loaders::{MapLoader, SureLoader};
 pub use memory_sinks::{SureSink, VecSink};
 pub use sink::{Sink, WriteRefusal};
 pub use streams::{ErrSink, OutSink};
-
-#[cfg(test)]
-mod tests;

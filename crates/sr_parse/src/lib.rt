@@ -13,6 +13,3 @@ pub use reading::{
     parse_statements, script,
 };
 pub use sr_syntax::refusal::Refusal;
-
-#[cfg(test)]
-mod tests;

@@ -15,6 +15,3 @@ mod script;
 mod words;
 
 pub use script::read_source;
-
-#[cfg(test)]
-mod tests;

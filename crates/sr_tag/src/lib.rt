@@ -14,6 +14,3 @@ pub use path::Path;
 pub use reading::text_determines_path;
 pub use reference::{EnvK, ModK, ObjK, Ref, Tag};
 pub use refusal::{ChildRefusal, PathRefusal};
-
-#[cfg(test)]
-mod tests;

@@ -27,6 +27,3 @@ pub use marker::Marker;
 pub use refusal::TextRefusal;
 pub use text::{MAX_UNITS, Str};
 pub use words::spells;
-
-#[cfg(test)]
-mod tests;

@@ -21,6 +21,3 @@ pub use reading::{parse_module, parse_script};
 pub use refusal::Refusal;
 pub use sr_text::Goal;
 pub use unit::Unit;
-
-#[cfg(test)]
-mod tests;
