@@ -3,7 +3,7 @@ use case_tables::{bytes_of, integer_of, quoted_units, units_of};
 use sr_num::Num;
 use sr_tag::{Path, Ref, Tag};
 use sr_text::Str;
-use sr_value::{Key, MadeNumber, Symbol, Value, WellKnown};
+use sr_value::{Key, MadeNumber, MadeSymbol, Symbol, Value, WellKnown};
 use std::alloc::Global;
 
 /// The string of a cell.
@@ -30,7 +30,8 @@ fn made(alloc: Global, cell: &str) -> Result<Symbol> {
     let path = Path::read(alloc, &bytes_of(alloc, path)?)?;
     let number = number.parse::<u64>()?;
     ensure!(1 <= number, "no made symbol has the number 0");
-    Ok(Symbol::Made(path, MadeNumber::of(number), description))
+    let made = MadeSymbol::of(alloc, path, MadeNumber::of(number), description)?;
+    Ok(Symbol::Made(made))
 }
 
 /// The symbol of a cell, or none where it is of another value.
