@@ -1,5 +1,5 @@
 -- The loop over frames, against the one recursion.
-use Rattle.std.specs.Prelude.{◌≡◌, ℕ, ◌≤◌, ◌<◌, ◌+◌, ◌-◌, ◌*◌, zero, suc, List, [], ◌∷◌, ◌++◌, Option, None, Some, length}
+use Rattle.std.specs.Prelude.{◌≡◌, ◌⊎◌, ℕ, ◌≤◌, ◌<◌, ◌+◌, ◌-◌, ◌*◌, suc, Bool, true, false, List, [], ◌∷◌, ◌++◌, Option, None, Some, length}
 use Rattle.std.specs.Io.KnownBytes.{Appends}
 use Rattle.sr_outside.specs.Writing.{AppendsPart}
 use Rattle.sr_text.specs.Encoding.{utf8_of}
@@ -8,21 +8,22 @@ use Rattle.sr_model.specs.Values.{Text}
 use Rattle.sr_model.specs.Outcomes.{Stop}
 use Rattle.sr_model.specs.Realm.{Realm}
 use Rattle.sr_model.specs.Tasks.{Run}
-use Rattle.sr_model.specs.Scripts.{Give, Halt, Look, Change, Part, Become, Pay, Enter, Line, Ticket, NewRealm, Tell, Load, Ask}
+use Rattle.sr_model.specs.Scripts.{Halt, Look, Change, Part, Pay, Enter}
 use Rattle.sr_model.specs.World.{Write, Printed}
 use Rattle.sr_model.specs.Globals.{Holds}
 use Rattle.sr_worlds.specs.Live.{Why, Stopped, Steps, LiveRan, over}
 use Rattle.sr_state.specs.declared.ends.Answer.{Answer}
 use Rattle.sr_state.specs.declared.ends.Answer.TheVariants as answer
+use Rattle.sr_state.specs.declared.ends.Completion.TheVariants as completion
 use Rattle.sr_state.specs.declared.ends.StopName.{StopName}
 use Rattle.sr_state.specs.declared.ends.StopName.TheVariants as stop
 use Rattle.sr_state.specs.declared.frame.Frame.{Frame}
 use Rattle.sr_state.specs.Ends.{IsStop}
-use Rattle.sr_state.specs.Held.{Held, Side, realm_in}
+use Rattle.sr_state.specs.Held.{Held, Side, realm_in, line_in, with_side, answered, is_idle}
 use Rattle.sr_state.specs.Step.{Operand, operand_of, Began, given_of}
 use Rattle.sr_state.specs.Work as language
 use Rattle.sr_machine.specs.Stages.{script_of}
-use Rattle.sr_machine.specs.Stack.{comes, frames_of, depths}
+use Rattle.sr_machine.specs.Stack.{comes, depths}
 use Rattle.sr_machine.specs.Worlds.{Tapes, Here, world_of, place_of}
 
 -- what is printed for a string: the string in UTF-8, and a newline
@@ -34,9 +35,13 @@ abbrev pub printed_bytes : Option Text → List ℕ
 printed_bytes None = []
 printed_bytes (Some text) = line_of text
 
-abbrev pub writes_of : Option Text → List Write
-writes_of None = []
-writes_of (Some text) = Printed text ∷ []
+abbrev pub write_of : Option Text → List Write
+write_of None = []
+write_of (Some text) = Printed text ∷ []
+
+-- after a line of the frame on top: it is given an empty end
+abbrev pub printed : Text → Held → Held
+printed text h = answered (answer.Done (completion.Normal None)) (with_side h (line_in text h.side))
 
 -- the charge with which a script begins, and 0 where it begins with none
 abbrev pub operand_charge : Option Operand → ℕ
@@ -49,14 +54,12 @@ first_charge (Enter s) r = 1
 first_charge (Look f) r = first_charge (f r) r
 first_charge (Change f s) r = first_charge s (record r { inner = f r.inner })
 first_charge (Part (Run s e t) k) r = operand_charge (operand_of t)
-first_charge (Part t k) r = 0
 first_charge s r = 0
 
--- a step pays the first charge of the script of the frame on top, or nothing
+-- a step pays nothing, or the first charge of the script of the frame on top
 abbrev pub PaysOnce : Held → Held → Type 0
 PaysOnce old new =
-    (let x = old.side in let y = new.side in
-    (c : ℕ) × (y.used ≡ x.used + c) × ((c ≡ 0 → ⊥) → c ≡ first_charge (script_of old.top (given_of old.answer)) (realm_in x)))
+    (c : ℕ) × (new.side.used ≡ old.side.used + c) × ((c ≡ 0) ⊎ (c ≡ first_charge (script_of old.top (given_of old.answer)) (realm_in old.side)))
 
 -- a script that pays before it makes a part, prints a line, ends or becomes another task
 abbrev pub PaysFirst : language.Steps → Type 0
@@ -68,49 +71,66 @@ PaysFirst (Change f s) = PaysFirst s
 PaysFirst (Part (Run s e t) k) = operand_charge (operand_of t) ≡ 1
 PaysFirst s = ⊥
 
--- weights of a state: a number that falls as the loop goes on. A frame has a spare beside its own weight, for parts that call code of the
--- user before anything is paid; no frame that is built has one yet
-abbrev pub spare_of : Frame → ℕ
-spare_of f = 0
+-- where no answer waits, the frame on top pays next
+abbrev pub Ready : Frame → Answer → Type 0
+Ready f answer.Empty = PaysFirst (script_of f Began)
+Ready f (answer.Done o) = Unit {0}
+
+-- none of these frames is idle
+abbrev pub Busy : List Frame → Type 0
+Busy [] = Unit {0}
+Busy (f ∷ fs) = (is_idle f.activity ≡ false) × Busy fs
+
+-- nothing is under way
+abbrev pub AtRest : Held → Type 0
+AtRest h = is_idle h.top.activity ≡ true
+
+-- weights of a state: a number that falls as the loop goes on
+abbrev pub frame_weight : Bool → ℕ
+frame_weight true = 0
+frame_weight false = 2
 
 abbrev pub frames_weight : List Frame → ℕ
 frames_weight [] = 0
-frames_weight (f ∷ fs) = 2 + 4 * spare_of f + frames_weight fs
+frames_weight (f ∷ fs) = frame_weight (is_idle f.activity) + frames_weight fs
 
 abbrev pub answer_weight : Answer → ℕ
 answer_weight answer.Empty = 0
 answer_weight (answer.Done o) = 3
 
 abbrev pub left_of : Held → ℕ
-left_of h = (let o = h.outer in let x = h.side in 8 * (o.bound - x.used) + frames_weight (frames_of h) + answer_weight h.answer)
+left_of h = 8 * (h.outer.bound - h.side.used) + frames_weight (h.top ∷ h.frames) + answer_weight h.answer
+
+-- the state of a run, whose realms are told apart, with this bound
+pub record Sound (bound : ℕ) (h : Held) : Type 0 where
+  pub here : Here h.outer h.side
+  pub live : h.outer.cut ≡ None
+  pub bounded : h.outer.bound ≡ bound
+  pub within : h.side.used ≤ bound
+  pub ready : Ready h.top h.answer
+  pub waits : Busy h.frames
+  pub rest : AtRest h → h.frames ≡ []
 
 module _ (read : Text → Reading) (bound : ℕ) (z : Tapes) where
-  -- where no answer waits, the frame on top pays next
-  abbrev pub Ready : Answer → Held → Type 0
-  Ready (answer.Done o) h = Unit {0}
-  Ready answer.Empty h = PaysFirst (script_of h.top Began)
-
-  -- the state of a run, of which one realm is there, and where v was written, is what a meaning still comes to, for each large enough
-  -- depth
+  -- the state of a run, where v was written, is what a meaning still comes to, for each large enough depth
   pub record Under (meaning : ℕ → LiveRan Holds) (v : List Write) (h : Held) : Type 0 where
-    pub here : Here h
-    pub alone : (let o = h.outer in o.below ≡ [])
-    pub live : (let o = h.outer in o.cut ≡ None)
-    pub bounded : (let o = h.outer in o.bound ≡ bound)
-    pub within : (let x = h.side in x.used ≤ bound)
-    pub ready : Ready h.answer h
+    pub sound : Sound bound h
     pub offsets : List ℕ
-    pub along : length offsets ≡ length (frames_of h)
+    pub along : length offsets ≡ suc (length h.frames)
     pub least : ℕ
     pub same : (n : ℕ) → least ≤ n → meaning n ≡ comes read bound z v h (depths offsets n)
+
+-- whatever the state of a run comes to
+abbrev pub ForRuns : (Text → Reading) → Held → (ℕ → Tapes → (ℕ → LiveRan Holds) → List Write → Type 0) → Type 0
+ForRuns read h P = (bound : ℕ) (z : Tapes) (meaning : ℕ → LiveRan Holds) (v : List Write) → Under read bound z meaning v h → P bound z meaning v
 
 -- the loop goes on: what was the state of a run is so after the step, which printed a line at most and paid once at most, and the number
 -- has fallen
 abbrev pub GoesOn : (Text → Reading) → Held → Held → Option (List ℕ) → Option (List ℕ) → Type 0
 GoesOn read old new before after =
-    (bound : ℕ) (z : Tapes) (meaning : ℕ → LiveRan Holds) (v : List Write) → Under read bound z meaning v old →
-    (text : Option Text) × Appends before after (printed_bytes text) × Under read bound z meaning (v ++ writes_of text) new
-    × (left_of new < left_of old) × PaysOnce old new
+    ForRuns read old (λ bound z meaning v.
+    (text : Option Text) × Appends before after (printed_bytes text) × Under read bound z meaning (v ++ write_of text) new
+    × (left_of new < left_of old) × PaysOnce old new)
 
 -- why a stop ends the run
 abbrev pub IsWhy : StopName → Why → Side → Type 0
@@ -124,12 +144,12 @@ IsWhy (stop.Unsupported marker at) why x = (y : Stop) × (why ≡ Stopped y) × 
 -- the run is over by this stop, in the world of the new state
 abbrev pub StopsBy : (Text → Reading) → StopName → Held → Held → Type 0
 StopsBy read name old new =
-    (bound : ℕ) (z : Tapes) (meaning : ℕ → LiveRan Holds) (v : List Write) → Under read bound z meaning v old →
+    ForRuns read old (λ bound z meaning v.
     (why : Why) × (calls : ℕ) × IsWhy name why new.side × PaysOnce old new
-    × ((least : ℕ) × ((n : ℕ) → least ≤ n → meaning n ≡ over why (place_of new calls) (world_of z v new)))
+    × (least : ℕ) × ((n : ℕ) → least ≤ n → meaning n ≡ over why (place_of new calls) (world_of z v new)))
 
 -- a failing sink took a first part of the next line of the run
 abbrev pub BreaksOff : (Text → Reading) → Held → Option (List ℕ) → Option (List ℕ) → Type 0
 BreaksOff read old before after =
-    (bound : ℕ) (z : Tapes) (meaning : ℕ → LiveRan Holds) (v : List Write) → Under read bound z meaning v old →
-    (text : Text) × (next : Held) × AppendsPart before after (line_of text) × Under read bound z meaning (v ++ Printed text ∷ []) next
+    ForRuns read old (λ bound z meaning v.
+    (text : Text) × (next : Held) × AppendsPart before after (line_of text) × Under read bound z meaning (v ++ Printed text ∷ []) next)

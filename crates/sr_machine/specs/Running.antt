@@ -1,31 +1,34 @@
 -- A run as contracts see it, and its steps.
-use Rattle.std.specs.Prelude.{◌≡◌, ℕ, ◌≤◌, suc, List, [], ◌∷◌, Option, None, Some}
+use Rattle.std.specs.Prelude.{◌≡◌, ℕ, ◌≤◌, [], ◌∷◌, Option, None, Some}
 use Rattle.sr_ast.specs.declared.reading.Reading.{Reading}
 use Rattle.sr_ast.specs.declared.reading.SourceCode.{SourceCode}
-use Rattle.sr_model.specs.Values.{Text, Path, Name, root, same}
-use Rattle.sr_model.specs.Events.{Goal, Source, Event, Took}
+use Rattle.sr_model.specs.Values.{Text, Name, root, same}
+use Rattle.sr_model.specs.Events.{Goal, Source, Took}
 use Rattle.sr_model.specs.Realm.{Realm}
 use Rattle.sr_model.specs.World.{choose}
 use Rattle.sr_model.specs.Globals.{Holds}
 use Rattle.sr_conv.specs.Plain.{value_of}
-use Rattle.sr_worlds.specs.Evaluation.{ev}
+use Rattle.sr_worlds.specs.Evaluation.{Done, ev}
+use Rattle.sr_worlds.specs.Laws.{IsStart, writes_of}
 use Rattle.sr_worlds.specs.Live.{LiveRan, live}
 use Rattle.sr_worlds.specs.Run.{give, start}
 use Rattle.sr_state.specs.declared.frame.Frame.{Frame}
 use Rattle.sr_state.specs.declared.frame.Activity.TheVariants as activity
 use Rattle.sr_state.specs.declared.ends.Answer.{Answer}
 use Rattle.sr_state.specs.declared.ends.Answer.TheVariants as answer
+use Rattle.sr_state.specs.declared.ends.Completion.{Completion}
 use Rattle.sr_state.specs.declared.ends.Completion.TheVariants as completion
+use Rattle.sr_state.specs.Ends.{completion_of}
 use Rattle.sr_state.specs.declared.ends.Abrupt.TheVariants as abrupt
-use Rattle.sr_state.specs.Held.{Held, Side, first, realm_in, answered}
+use Rattle.sr_state.specs.Held.{Held, Side, first, realm_in, answered, topped}
 use Rattle.sr_machine.specs.declared.live.Ended.{Ended}
 use Rattle.sr_machine.specs.declared.live.Ended.TheVariants as ended
 use Rattle.sr_machine.specs.declared.live.Advance.{Advance}
 use Rattle.sr_machine.specs.declared.live.Advance.TheVariants as advance
 use Rattle.sr_machine.specs.declared.live.StopAt.{StopAt}
 use Rattle.sr_machine.specs.Language.{throw_report, language, source_of}
-use Rattle.sr_machine.specs.Worlds.{Tapes}
-use Rattle.sr_machine.specs.Going.{Under, StopsBy}
+use Rattle.sr_machine.specs.Worlds.{Tapes, world_of}
+use Rattle.sr_machine.specs.Going.{AtRest, ForRuns, Under, StopsBy}
 
 -- the state, and what ended the run
 pub record Running : Type 0 where
@@ -40,9 +43,12 @@ opened bound = record { held = first bound; over = None }
 abbrev pub source_frame : SourceCode → Frame
 source_frame x = record { activity = activity.Source x; source = 0; stage = 0; calls = 0; value = None; list = [] }
 
--- a run to which a source was given
+-- a run to which a source is given
+abbrev pub giving : SourceCode → Running → Running
+giving x r = record r { held = topped (source_frame x) r.held }
+
 abbrev pub given : ℕ → SourceCode → Running
-given bound x = (let h = first bound in record { held = record h { top = source_frame x }; over = None })
+given bound x = giving x (opened bound)
 
 -- what the first realm does with a text, by the depth to which tasks may be nested; and the tapes while it does
 abbrev pub source_run : (Text → Reading) → ℕ → Goal → Name → Text → ℕ → LiveRan Holds
@@ -51,10 +57,19 @@ source_run read bound goal name text n = give (language read) (ev (language read
 abbrev pub source_tapes : Goal → Name → Text → Tapes
 source_tapes goal name text q = choose (same q root) (Took (Source goal name text) ∷ []) []
 
--- a run that was given a text is what that comes to
+-- a run that was given a text is the state of what that comes to
 abbrev pub Begins : Type 0
 Begins = (read : Text → Reading) (bound : ℕ) (goal : Goal) (name : Name) (text : Text) →
-    (let r = given bound (source_of read text) in Under read bound (source_tapes goal name text) (source_run read bound goal name text) [] r.held)
+    Under read bound (source_tapes goal name text) (source_run read bound goal name text) [] (given bound (source_of read text)).held
+
+-- where nothing is under way, a run has come to an end, which is what is given
+abbrev pub EndsAtRest : Type 0
+EndsAtRest = (read : Text → Reading) (h : Held) → AtRest h →
+    ForRuns read h (λ bound z meaning v. (o : Completion) × (h.answer ≡ answer.Done o) × (least : ℕ) × ((n : ℕ) → least ≤ n → meaning n ≡ Done (world_of z v h) (completion_of o)))
+
+-- what was written is the beginning of all that a run writes
+abbrev pub WritesFirst : Type 0
+WritesFirst = (read : Text → Reading) (h : Held) → ForRuns read h (λ bound z meaning v. (least : ℕ) × ((n : ℕ) → least ≤ n → IsStart v (writes_of (meaning n))))
 
 -- the answer after the end
 abbrev pub answer_of : Ended → Advance
@@ -73,15 +88,11 @@ Remembers advance.Memory over = over ≡ Some ended.Memory
 
 -- the start of the last tree whose charge was paid
 abbrev pub IsLastPlace : StopAt → Side → Type 0
-IsLastPlace s x = (let r = realm_in x in let i = r.inner in let h = i.rest in let l = h.last in (s.source ≡ l.source) × (s.at ≡ l.at))
+IsLastPlace s x = (let l = (realm_in x).inner.rest.last in (s.source ≡ l.source) × (s.at ≡ l.at))
 
 -- the run stopped
 abbrev pub Stopped : (Text → Reading) → StopAt → Held → Held → Type 0
 Stopped read s old new = StopsBy read s.name old new × IsLastPlace s new.side
-
--- nothing is under way
-abbrev pub AtRest : Held → Type 0
-AtRest h = (let f = h.top in f.activity ≡ activity.Idle)
 
 -- the report of the throw in which the source ended, in the realm as it is then
 abbrev pub thrown_of : Realm Holds → Answer → Option Text
@@ -98,4 +109,4 @@ thrown_in h = thrown_of (realm_in h.side) h.answer
 
 -- after that was told
 abbrev pub told : Running → Running
-told r = (let h = r.held in record r { held = answered answer.Empty h })
+told r = record r { held = answered answer.Empty r.held }

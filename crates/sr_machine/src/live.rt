@@ -1,19 +1,16 @@
 ghost use Rattle.std.specs.Prelude.{◌≡◌, ◌≤◌, ◌<◌, ℕ, Some, None, [], OnOk, IfOk, IfSome, IsErrOf, Option};
 ghost use Rattle.std.specs.Io.KnownBytes.{Appends};
 ghost use Rattle.sr_ast.specs.declared.reading.Reading.{Reading};
-ghost use Rattle.sr_ast.specs.declared.tree.Node.{out-Node};
 ghost use Rattle.sr_model.specs.Values.{Text};
 ghost use Rattle.sr_outside.specs.Counts.{Rose};
 ghost use Rattle.sr_outside.specs.Writing.{AppendsPart};
-ghost use Rattle.sr_machine.specs.Going.{line_of, left_of, GoesOn};
-ghost use Rattle.sr_machine.specs.Language as language;
-ghost use Rattle.sr_machine.specs.Rules as machine;
-ghost use Rattle.sr_machine.specs.Rules.{printed, FrameSteps};
-ghost use Rattle.sr_machine.specs.Running.{opened, given, answer_of, thrown_in, told, Remembers, Stopped, BreaksOff};
+ghost use Rattle.sr_machine.specs.Going.{line_of, left_of, printed, AtRest, GoesOn, BreaksOff};
+ghost use Rattle.sr_machine.specs.Running.{opened, giving, answer_of, thrown_in, told, Remembers, Stopped};
 
 use crate::reports::report;
+use crate::steps::step;
 use sqlite_items::Items;
-use sr_ast::{Node, SourceCode};
+use sr_ast::SourceCode;
 use sr_outside::{Sink, WriteRefusal};
 use sr_state::{Abrupt, Activity, Answer, Completion, Frame, Next, State, StopName};
 use sr_text::Str;
@@ -59,17 +56,6 @@ pub enum Ended {
     Memory,
 }
 
-/// The rules by which a frame goes on.
-#[derive(Clone, Copy, Debug, PartialEq, Eq)]
-enum Rules {
-    /// Those of statements and sources.
-    Statements,
-    /// Those of expressions.
-    Expressions,
-    /// Those of built-in functions.
-    BuiltIns,
-}
-
 /// The run of a source.
 pub struct Live {
     alloc: Global,
@@ -90,6 +76,7 @@ impl Drop for Live {
 }
 
 impl Model for Live {
+    ghost use Rattle.std.specs.Prelude.{◌≡◌, None};
     ghost use Rattle.std.specs.Coded.{codes};
     ghost use Rattle.sr_ast.specs.contracts.tree.Tree as kind;
     ghost use Rattle.sr_machine.specs.Running.{Running};
@@ -99,6 +86,8 @@ impl Model for Live {
     ghost coded = { Prim.hlevel (codes, kind.the_row.coded) };
 
     ghost view = { λ live. record { held = live.state; over = live.over } };
+
+    ghost invariant = { λ live. live.over ≡ None → live.state.outer.cut ≡ None };
 }
 
 impl Live {
@@ -114,15 +103,17 @@ impl Live {
     }
 
     /// Gives the run a source to run.
-    pub fn give_source(&mut self, source: SourceCode) -> Result<(), AllocError>
-        ensures { OnOk result ((bound : ℕ) → self.old ≡ opened bound → self.new ≡ given bound source) }
+    pub fn give_source(&mut self, source: SourceCode)
+        ensures { self.new ≡ giving source self.old }
     {
-        self.state.push(Frame {
-            activity: Activity::Source(0, source),
+        self.state.replace_top(Frame {
+            activity: Activity::Source(source),
+            source: 0,
             stage: 0,
-            kept: Items::new(self.alloc),
             calls: 0,
-        })
+            value: None,
+            list: Items::new(self.alloc),
+        });
     }
 
     /// The report of the throw in which the source ended; none where it ended normally, or where that was told.
@@ -147,12 +138,12 @@ impl Live {
         ensures going { result ≡ Advance.Going → (read : Text → Reading) → GoesOn read self.old.held self.new.held (O.written out.old) (O.written out.new) }
         ensures on { result ≡ Advance.Going → self.new.over ≡ None }
         ensures over { Remembers result self.new.over }
-        ensures thrown { (text : Text) → result ≡ Advance.Thrown text → (self.old.held.frames ≡ []) × (thrown_in self.old.held ≡ Some text) × (self.new ≡ told self.old) }
+        ensures thrown { (text : Text) → result ≡ Advance.Thrown text → AtRest self.old.held × (thrown_in self.old.held ≡ Some text) × (self.new ≡ told self.old) }
         ensures thrown_falls { (text : Text) → result ≡ Advance.Thrown text → left_of self.new.held < left_of self.old.held }
         ensures thrown_unwritten { (text : Text) → result ≡ Advance.Thrown text → O.written out.new ≡ O.written out.old }
-        ensures done { result ≡ Advance.Done → (self.old.held.frames ≡ []) × (thrown_in self.old.held ≡ None) × (self.new ≡ self.old) }
+        ensures done { result ≡ Advance.Done → AtRest self.old.held × (thrown_in self.old.held ≡ None) × (self.new ≡ self.old) }
         ensures done_unwritten { result ≡ Advance.Done → O.written out.new ≡ O.written out.old }
-        ensures rest { self.old.over ≡ None → self.old.held.frames ≡ [] → (result ≡ Advance.Going → ⊥) × (result ≡ Advance.Write → ⊥) × ((s : _) → result ≡ Advance.Stop s → ⊥) }
+        ensures rest { self.old.over ≡ None → AtRest self.old.held → (result ≡ Advance.Going → ⊥) × (result ≡ Advance.Write → ⊥) × ((s : _) → result ≡ Advance.Stop s → ⊥) }
         ensures stop { self.old.over ≡ None → (s : _) → result ≡ Advance.Stop s → (read : Text → Reading) → Stopped read s self.old.held self.new.held }
         ensures stop_unwritten { (s : _) → result ≡ Advance.Stop s → O.written out.new ≡ O.written out.old }
         ensures write { result ≡ Advance.Write → self.old.over ≡ None → (read : Text → Reading) → BreaksOff read self.old.held (O.written out.old) (O.written out.new) }
@@ -164,14 +155,14 @@ impl Live {
         if let Some(end) = self.over {
             return answer_to(end);
         }
-        let Some(mut frame) = self.state.pop() else {
+        if self.state.is_idle() {
             return self.finish();
-        };
-        match step(self.alloc, &mut self.state, &mut frame) {
-            Err(_) => self.end_by(Ended::Memory),
-            Ok(Next::Pushed) => Advance::Going,
-            Ok(Next::Give(end)) => {
-                self.state.put_answer(Answer::Done(end));
+        }
+        match step(&mut self.state) {
+            Err(_) => end_by(&mut self.over, Ended::Memory),
+            Ok(Next::Going) => Advance::Going,
+            Ok(Next::Ended) => {
+                self.state.pop();
                 Advance::Going
             }
             Ok(Next::Print(text)) => self.print(text, out),
@@ -181,8 +172,9 @@ impl Live {
                     source: self.state.last_source(),
                     at: self.state.last_at(),
                 };
-                self.end_by(Ended::Stop(stop))
+                end_by(&mut self.over, Ended::Stop(stop))
             }
+            Ok(Next::CutOff) => unreachable!(),
         }
     }
 
@@ -195,10 +187,10 @@ impl Live {
         ensures over { Remembers result self.new.over }
     {
         match self.thrown() {
-            Err(_) => self.end_by(Ended::Memory),
+            Err(_) => end_by(&mut self.over, Ended::Memory),
             Ok(None) => Advance::Done,
             Ok(Some(text)) => {
-                self.state.clear_answer();
+                self.state.put_answer(Answer::Empty);
                 Advance::Thrown(text)
             }
         }
@@ -215,19 +207,19 @@ impl Live {
     {
         match print_line(self.alloc, &mut self.state, text, out) {
             Ok(()) => Advance::Going,
-            Err(WriteRefusal::Failed) => self.end_by(Ended::Write),
-            Err(WriteRefusal::Memory) => self.end_by(Ended::Memory),
+            Err(WriteRefusal::Failed) => end_by(&mut self.over, Ended::Write),
+            Err(WriteRefusal::Memory) => end_by(&mut self.over, Ended::Memory),
         }
     }
+}
 
-    /// The run ends here.
-    fn end_by(&mut self, end: Ended) -> Advance
-        ensures answer { result ≡ answer_of end }
-        ensures over { self.new ≡ (let r = self.old in record r { over = Some end }) }
-    {
-        self.over = Some(end);
-        answer_to(end)
-    }
+/// A run ends here.
+fn end_by(over: &mut Option<Ended>, end: Ended) -> Advance
+    ensures answer { result ≡ answer_of end }
+    ensures over { over.new ≡ Some end }
+{
+    *over = Some(end);
+    answer_to(end)
 }
 
 /// The answer after the end.
@@ -238,52 +230,6 @@ fn answer_to(end: Ended) -> Advance
         Ended::Stop(stop) => Advance::Stop(stop),
         Ended::Write => Advance::Write,
         Ended::Memory => Advance::Memory,
-    }
-}
-
-/// Takes a step of a frame, by what it carries out.
-fn step(alloc: Global, state: &mut State, frame: &mut Frame) -> Result<Next, AllocError>
-    ensures { IfOk result (λ next. FrameSteps frame.old state.old next state.new) }
-{
-    match rules_of(&frame.activity) {
-        Rules::Statements => sr_stmt::step(alloc, state, frame),
-        Rules::Expressions => sr_expr::step(alloc, state, frame),
-        Rules::BuiltIns => sr_call::step(alloc, state, frame),
-    }
-}
-
-/// The rules by which an activity goes on.
-fn rules_of(activity: &Activity) -> Rules
-    ensures { result ≡ machine.rules_of activity.now }
-{
-    match activity {
-        Activity::Tree(_, tree) => {
-            if is_statement(&tree.get().node) {
-                Rules::Statements
-            } else {
-                Rules::Expressions
-            }
-        }
-        Activity::Source(_, _) => Rules::Statements,
-        Activity::BuiltIn(_) => Rules::BuiltIns,
-    }
-}
-
-/// Whether a tree is a statement that is built.
-fn is_statement(node: &Node) -> bool
-    ensures { result ≡ language.is_statement (out-Node node.now) }
-{
-    match node {
-        Node::Expression(_)
-        | Node::Directive(_)
-        | Node::Var(_)
-        | Node::Block(_)
-        | Node::Empty
-        | Node::If(_, _, _)
-        | Node::Do(_, _)
-        | Node::While(_, _)
-        | Node::For(_, _, _, _) => true,
-        _ => false,
     }
 }
 

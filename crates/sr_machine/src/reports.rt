@@ -4,6 +4,7 @@ ghost use Rattle.sr_conv.specs.Conversions.{number_text};
 ghost use Rattle.sr_conv.specs.Reports as spec;
 ghost use Rattle.sr_model.specs.Globals.{error_in};
 ghost use Rattle.sr_state.specs.Errors.{name_text};
+ghost use Rattle.sr_state.specs.Held.{realm_in};
 ghost use Rattle.sr_machine.specs.Language.{error_report, throw_report};
 
 use sr_num::Num;
@@ -41,8 +42,10 @@ fn description(alloc: Global, symbol: &Symbol) -> Result<Vec<u16>, AllocError>
         Symbol::WellKnown(WellKnown::ToPrimitive) => letters(alloc, b"Symbol.toPrimitive"),
         Symbol::WellKnown(WellKnown::ToStringTag) => letters(alloc, b"Symbol.toStringTag"),
         Symbol::Registered(text) => Vec::from_slice(alloc, text.units()),
-        Symbol::Made(_, _, Some(text)) => Vec::from_slice(alloc, text.units()),
-        Symbol::Made(_, _, None) => Ok(Vec::new(alloc)),
+        Symbol::Made(made) => match made.description() {
+            Some(text) => Vec::from_slice(alloc, text.units()),
+            None => Ok(Vec::new(alloc)),
+        },
     }
 }
 
@@ -67,7 +70,7 @@ fn error_name(name: ErrorName) -> &'static str
 
 /// All code units that would be told of the object at a place, counted from 0.
 fn object_units(alloc: Global, state: &State, place: usize) -> Result<Vec<u16>, AllocError>
-    ensures { IfOk result (λ units. units.items ≡ error_report (error_in state.now.side.realm (suc place))) }
+    ensures { IfOk result (λ units. units.items ≡ error_report (error_in (realm_in state.now.side) (suc place))) }
 {
     match state.error(place) {
         None => letters(alloc, b"object"),
@@ -82,7 +85,7 @@ fn object_units(alloc: Global, state: &State, place: usize) -> Result<Vec<u16>, 
 
 /// All code units that would be told of a value.
 fn units_of(alloc: Global, state: &State, value: &Value) -> Result<Vec<u16>, AllocError>
-    ensures { IfOk result (λ units. units.items ≡ spec.value_report (λ n. error_report (error_in state.now.side.realm n)) (value_of value.now)) }
+    ensures { IfOk result (λ units. units.items ≡ spec.value_report (λ n. error_report (error_in (realm_in state.now.side) n)) (value_of value.now)) }
 {
     match value {
         Value::Undefined => letters(alloc, b"undefined"),
@@ -99,7 +102,7 @@ fn units_of(alloc: Global, state: &State, value: &Value) -> Result<Vec<u16>, All
 /// What is told of a value that was thrown and not caught: at most its first 16,777,216 code units.
 #[tactic(auto, unfolding(sr_conv::specs::Reports::report))]
 pub(crate) fn report(alloc: Global, state: &State, value: &Value) -> Result<Str, AllocError>
-    ensures { IfOk result (λ text. text ≡ throw_report state.now.side.realm (value_of value.now)) }
+    ensures { IfOk result (λ text. text ≡ throw_report (realm_in state.now.side) (value_of value.now)) }
 {
     let units = units_of(alloc, state, value)?;
     let told = units.len().min(MAX_UNITS);

@@ -7,9 +7,7 @@ ghost use Rattle.sr_stmt.specs.Reads.{Accepts, Refuses, Reads};
 use crate::lists::{begin_statement, statement};
 use crate::places::{after, before, statement_here};
 use sr_ast::{Reading, Refused, ScriptCode, SourceCode};
-use sr_state::{
-    Abrupt, Completion, ErrorName, Next, State, StopName, string_cost, syntax_message,
-};
+use sr_state::{Abrupt, Completion, ErrorName, Next, State, StopName, string_cost, syntax_message};
 use std::alloc::AllocError;
 
 /// Accepts a script: its names are declared, and its first statement is next (ECMA-262 16.1.7).

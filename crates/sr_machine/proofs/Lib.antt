@@ -1,0 +1,10 @@
+pub mod Worlds
+pub mod Rows
+pub mod Exact
+pub mod Comes
+pub mod Kept
+pub mod Dispatch
+pub mod Outside
+pub mod Advances
+pub mod Grows
+pub mod Begins
