@@ -55,25 +55,12 @@ shown_part line before after (Ok y) ok part memory = (length line, rw (take_all 
 shown_part line before after (Err Failed) ok part memory = let p = part refl in (p.0, p.2)
 shown_part line before after (Err Memory) ok part memory = (0, appends_nothing before after (memory refl))
 
--- a first part of one write on the errors
-pub cut_of_line : (status : Status) (o before after : Option (List ℕ)) (line : List ℕ) → AppendsPart before after line → ComesTo (line_ending status line) (Err Failed) (streams o before) (streams o after)
-cut_of_line status o before after line part = (err (take part.0 line) ∷ [], here part.0, err_gains o before after (take part.0 line) part.2)
-
--- none of it
-pub none_of_line : (course : Course) (o before after : Option (List ℕ)) → after ≡ before → ComesTo course (Err Memory) (streams o before) (streams o after)
-none_of_line course o before after same = rw same (starved_first course (streams o before))
-
--- what a write of a line came to
-pub comes_line : (status : Status) (o before after : Option (List ℕ)) (line : List ℕ) (refusal : WriteRefusal) → (refusal ≡ Failed → AppendsPart before after line) → (refusal ≡ Memory → after ≡ before)
-    → ComesTo (line_ending status line) (Err refusal) (streams o before) (streams o after)
-comes_line status o before after line Failed part same = cut_of_line status o before after line (part refl)
-comes_line status o before after line Memory part same = none_of_line (line_ending status line) o before after (same refl)
-
--- the same, as `?` hands the refusal on
+-- what a write of a line came to that was refused, as `?` hands the refusal on
 pub comes_line_on : (r : Result Status WriteRefusal) (status : Status) (before after : Option (List ℕ)) (line : List ℕ) (refusal : WriteRefusal) → IsErrAnd r (λ e. e ≡ refusal)
     → (refusal ≡ Failed → AppendsPart before after line) → (refusal ≡ Memory → after ≡ before) → (o : Option (List ℕ)) → ComesTo (line_ending status line) r (streams o before) (streams o after)
 comes_line_on (Ok ended) status before after line refusal is part same o = absurd is
-comes_line_on (Err e) status before after line refusal is part same o = rw is (comes_line status o before after line refusal part same)
+comes_line_on (Err Failed) status before after line refusal is part same o = (let p = part (sym is) in (err (take p.0 line) ∷ [], here p.0, err_gains o before after (take p.0 line) p.2))
+comes_line_on (Err Memory) status before after line refusal is part same o = rw (same (sym is)) (starved_first (line_ending status line) (streams o before))
 
 -- want of memory, as `?` hands it on
 pub is_memory : (r : Result Status WriteRefusal) → IsErrAnd r (λ e. e ≡ Memory) → r ≡ Err Memory

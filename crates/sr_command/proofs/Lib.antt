@@ -1,3 +1,4 @@
+pub mod Leading
 pub mod Gaining
 pub mod Asked
 pub mod Turning

@@ -4,9 +4,9 @@ use Rattle.sr_outside.specs.declared.loader.Loaded.{Loaded}
 use Rattle.sr_outside.specs.declared.sink.WriteRefusal.{WriteRefusal}
 use Rattle.sr_command.specs.declared.status.Status.{Status}
 use Rattle.sr_command.specs.Status.{code_of}
-use Rattle.sr_command.specs.Reaching.{RanOut, Reaches}
+use Rattle.sr_command.specs.Reaching.{ComesTo, RanOut}
 use Rattle.sr_command.specs.Writes.{Write, err, Streams, Gains, IsCut, IsStart}
-use Rattle.sr_command.specs.Courses.{Course}
+use Rattle.sr_command.specs.Courses.{Course, HasEnded}
 use Rattle.sr_command.specs.Runs.{Runs}
 
 -- The loader gave these answers in this call, by what it remembers before and after: none, or one, the latest.
@@ -19,10 +19,6 @@ Gave before after (answer ∷ another ∷ more) = ⊥
 abbrev pub part_of_line : ℕ → List ℕ → Write
 part_of_line n text = err (take n (text ++ 0x0A ∷ []))
 
--- A run of these words is come to, with the answers that the loader gave; or memory ran out before anything was written.
-abbrev pub ReachesRun : List (List ℕ) → Option (List ℕ × Loaded) → Option (List ℕ × Loaded) → Result Status WriteRefusal → Streams → Streams → Type 0
-ReachesRun words before after result old new = ((answers : List (List ℕ × Loaded)) × Gave before after answers × Reaches (Runs words answers) result old new) ⊎ RanOut result old new
-
 module _ (words : List (List ℕ)) (before after : Option (List ℕ × Loaded)) where
   -- how far a run of these words comes, with the answers that the loader gave
   pub record IsRun : Type 0 where
@@ -30,6 +26,10 @@ module _ (words : List (List ℕ)) (before after : Option (List ℕ × Loaded)) 
     pub gave : Gave before after answers
     pub course : Course
     pub runs : Runs words answers course
+
+  -- A run of these words is come to; or memory ran out before anything was written.
+  abbrev pub ReachesRun : Result Status WriteRefusal → Streams → Streams → Type 0
+  ReachesRun result old new = ((run : IsRun) × ComesTo run.course result old new) ⊎ RanOut result old new
 
   -- The run came to its end: the status is the run's, and the streams gained exactly its writes.
   pub record Completes (status : ℕ) (old new : Streams) : Type 0 where
@@ -40,20 +40,22 @@ module _ (words : List (List ℕ)) (before after : Option (List ℕ × Loaded)) 
     pub wrote : Gains old new run.course.writes
 
   -- A sink failed: the streams gained the first writes of the run whole and a first part of the next, and then a first
-  -- part of the line `write failed`.
+  -- part of the line `write failed`. Those are first writes also of all that the run writes in the end.
   pub record BreaksOff (old new : Streams) : Type 0 where
     pub run : IsRun
     pub cut : List Write
     pub is_cut : IsCut cut run.course.writes
+    pub in_the_end : (whole : Course) → HasEnded whole → Runs words run.answers whole → IsCut cut whole.writes
     pub shown : ℕ
     pub wrote : Gains old new (cut ++ part_of_line shown (codes "write failed") ∷ [])
 
   -- Memory ran out within the run: the streams gained its first writes whole, and then a first part of the line
-  -- `memory`.
+  -- `memory`. Those are first writes also of all that the run writes in the end.
   pub record Starves (old new : Streams) : Type 0 where
     pub run : IsRun
     pub start : List Write
     pub is_start : IsStart start run.course.writes
+    pub in_the_end : (whole : Course) → HasEnded whole → Runs words run.answers whole → IsStart start whole.writes
     pub shown : ℕ
     pub wrote : Gains old new (start ++ part_of_line shown (codes "memory") ∷ [])
 

@@ -1,5 +1,5 @@
 -- What is written of a run of realms, and how far it has come.
-use Rattle.std.specs.Prelude.{ℕ, Bool, true, false, List, [], ◌∷◌, ◌++◌, map, Option, None, Some, codes}
+use Rattle.std.specs.Prelude.{◌≡◌, ◌⊎◌, ℕ, Bool, true, false, List, [], ◌∷◌, ◌++◌, map, Option, None, Some, codes}
 use Rattle.std.specs.Fmt.{decimal}
 use Rattle.sr_text.specs.Encoding.{utf8_of}
 use Rattle.sr_text.specs.declared.marker.Marker.{Marker}
@@ -10,16 +10,24 @@ use Rattle.sr_model.specs.Outcomes.{NumberStop, NegativeZero, Fraction, Infinite
 use Rattle.sr_model.specs.World as worlds
 use Rattle.sr_model.specs.Globals.{Holds, Spot}
 use Rattle.sr_worlds.specs.Evaluation.{Done, Over}
-use Rattle.sr_worlds.specs.Live.{Why, Stopped, Steps, Open, Broken, Short, LiveRan}
+use Rattle.sr_worlds.specs.Live.{Why, Stopped, Steps, LiveRan}
 use Rattle.sr_machine.specs.Going.{line_of}
 use Rattle.sr_command.specs.declared.status.Status.{Status}
 use Rattle.sr_command.specs.declared.status.Status.TheVariants as status
-use Rattle.sr_command.specs.Writes.{Write, out, err}
+use Rattle.sr_command.specs.Writes.{Write, out, err, IsStart}
 
 -- how far a run has come: what it wrote, in order, and the status that it ended with; none where it has not come to an end
 pub record Course : Type 0 where
   pub writes : List Write
   pub status : Option Status
+
+-- a run that has ended
+abbrev pub HasEnded : Course → Type 0
+HasEnded course = (status : Status) × (course.status ≡ Some status)
+
+-- a course leads to another: it is that; or it has not come to an end, and what it wrote is the beginning of what the other wrote
+abbrev pub LeadsTo : Course → Course → Type 0
+LeadsTo course other = (course ≡ other) ⊎ ((course.status ≡ None) × IsStart course.writes other.writes)
 
 -- these bytes on the errors, in one write, and a status
 abbrev pub line_ending : Status → List ℕ → Course
@@ -121,15 +129,13 @@ under_way w = record { writes = map write_of w.writes; status = None }
 abbrev pub stopped : Status → List ℕ → Path → worlds.World Holds → Course
 stopped status name realm w = record { writes = map write_of w.writes ++ err (stop_text name realm (last_of realm w) ++ 0x0A ∷ []) ∷ []; status = Some status }
 
--- by why it is over. For want of uses of rows, of answers, or of where a request goes, it has not come to an end
+-- by why it is over. For want of depth, of answers, or of where a request goes, it has not come to an end
 abbrev pub over_course : ℕ → Why → Path → worlds.World Holds → Course
 over_course bound (Stopped x) realm w = stopped status.Stopped (stop_name x) realm w
 over_course bound (Steps cost) realm w = stopped status.OutOfSteps (steps_name w.used bound cost) realm w
-over_course bound Open realm w = under_way w
-over_course bound Broken realm w = under_way w
-over_course bound Short realm w = under_way w
+over_course bound why realm w = under_way w
 
 -- how far a run has come
 abbrev pub course_of : ℕ → LiveRan Holds → Course
-course_of bound (Done w o m) = ended w
+course_of bound (Done w o) = ended w
 course_of bound (Over w e) = (let c = e.place in over_course bound e.why c.realm w)

@@ -16,22 +16,14 @@ use Rattle.sr_command.specs.Courses.{Course, line_ending, number_stop_name, unsu
 abbrev pub number_name : NumStop → List ℕ
 number_name s = number_stop_name (number_stop_of s)
 
--- the name of a stop, with a bound of steps, and the status of a run that stopped so
-abbrev pub name_in_line : ℕ → StopName → List ℕ
-name_in_line bound (stop.Number s) = number_name s
-name_in_line bound stop.StringLength = codes "string length"
-name_in_line bound stop.CallDepth = codes "call depth"
-name_in_line bound stop.SyntaxDepth = codes "syntax depth"
-name_in_line bound (stop.Unsupported m at) = unsupported_name m at
-name_in_line bound (stop.Steps used cost) = steps_name used bound cost
-
-abbrev pub stop_status : StopName → Status
-stop_status (stop.Number s) = status.Stopped
-stop_status stop.StringLength = status.Stopped
-stop_status stop.CallDepth = status.Stopped
-stop_status stop.SyntaxDepth = status.Stopped
-stop_status (stop.Unsupported m at) = status.Stopped
-stop_status (stop.Steps used cost) = status.OutOfSteps
+-- the status of a run that stopped so, and the name of the stop, with a bound of steps
+abbrev pub stop_end : ℕ → StopName → Status × List ℕ
+stop_end bound (stop.Number s) = (status.Stopped, number_name s)
+stop_end bound stop.StringLength = (status.Stopped, codes "string length")
+stop_end bound stop.CallDepth = (status.Stopped, codes "call depth")
+stop_end bound stop.SyntaxDepth = (status.Stopped, codes "syntax depth")
+stop_end bound (stop.Unsupported m at) = (status.Stopped, unsupported_name m at)
+stop_end bound (stop.Steps used cost) = (status.OutOfSteps, steps_name used bound cost)
 
 -- the line of a stop in the first realm
 abbrev pub stop_line : List ℕ → ℕ → ℕ → List ℕ
@@ -39,7 +31,7 @@ stop_line name source at = codes "stop: " ++ name ++ codes ", realm 0, source " 
 
 -- what is left of a run that stopped
 abbrev pub stop_ending : ℕ → StopAt → Course
-stop_ending bound s = line_ending (stop_status s.name) (stop_line (name_in_line bound s.name) s.source s.at)
+stop_ending bound s = (let e = stop_end bound s.name in line_ending e.0 (stop_line e.1 s.source s.at))
 
 -- the line of an uncaught throw, by what is told of it
 abbrev pub uncaught_line : List ℕ → Text → List ℕ

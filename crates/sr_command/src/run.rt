@@ -106,6 +106,7 @@ fn end_by_name<E: Sink>(
     err: &mut E,
 ) -> Result<Status, WriteRefusal>
     ensures comes { (out : Option (List ℕ)) → ComesTo (line_ending status (stop_line name.now stop.source stop.at)) result (streams out (E.written err.old)) (streams out (E.written err.new)) }
+    ensures status { IfOk result (λ ended. ended ≡ status) }
     ensures cause { IsErrOf result WriteRefusal.Failed → Rose (E.faults err.old) (E.faults err.new) }
     ensures faults { E.faults err.old ≤ E.faults err.new }
 {
@@ -118,6 +119,7 @@ fn end_by_name<E: Sink>(
 /// Ends the run of a text that is too long for a string.
 fn end_too_long<E: Sink>(alloc: Global, err: &mut E) -> Result<Status, WriteRefusal>
     ensures comes { (out : Option (List ℕ)) → ComesTo too_long result (streams out (E.written err.old)) (streams out (E.written err.new)) }
+    ensures read { result ≡ Ok Status.ReadFailed → ⊥ }
     ensures cause { IsErrOf result WriteRefusal.Failed → Rose (E.faults err.old) (E.faults err.new) }
     ensures faults { E.faults err.old ≤ E.faults err.new }
 {
@@ -137,6 +139,7 @@ fn end_by_stop<E: Sink>(
     err: &mut E,
 ) -> Result<Status, WriteRefusal>
     ensures comes { (out : Option (List ℕ)) → ComesTo (stop_ending bound stop) result (streams out (E.written err.old)) (streams out (E.written err.new)) }
+    ensures read { result ≡ Ok Status.ReadFailed → ⊥ }
     ensures cause { IsErrOf result WriteRefusal.Failed → Rose (E.faults err.old) (E.faults err.new) }
     ensures faults { E.faults err.old ≤ E.faults err.new }
 {
@@ -181,6 +184,7 @@ fn end_of_run<E: Sink>(
     err: &mut E,
 ) -> Result<Status, WriteRefusal>
     ensures comes { (out : Option (List ℕ)) → ComesTo (last_ending name.now thrown) result (streams out (E.written err.old)) (streams out (E.written err.new)) }
+    ensures read { result ≡ Ok Status.ReadFailed → ⊥ }
     ensures cause { IsErrOf result WriteRefusal.Failed → Rose (E.faults err.old) (E.faults err.new) }
     ensures faults { E.faults err.old ≤ E.faults err.new }
 {
@@ -204,6 +208,7 @@ fn run_to_end<O: Sink, E: Sink>(
 ) -> Result<Status, WriteRefusal>
     requires { (text : List ℕ) × (r : Reading) × (live.old ≡ given bound (source_of (λ _. r) text)) }
     ensures reaches { (text : List ℕ) (r : Reading) → live.old ≡ given bound (source_of (λ _. r) text) → Reaches (RunsReading bound name.now text r) result (streams (O.written out.old) (E.written err.old)) (streams (O.written out.new) (E.written err.new)) }
+    ensures read { result ≡ Ok Status.ReadFailed → ⊥ }
     ensures cause { IsErrOf result WriteRefusal.Failed → Rose (O.faults out.old) (O.faults out.new) ⊎ Rose (E.faults err.old) (E.faults err.new) }
     ensures out_faults { O.faults out.old ≤ O.faults out.new }
     ensures err_faults { E.faults err.old ≤ E.faults err.new }
@@ -231,12 +236,13 @@ fn run_source<O: Sink, E: Sink>(
 ) -> Result<Status, WriteRefusal>
     requires { (text : List ℕ) × (source.units ≡ length text) }
     ensures reaches { (text : List ℕ) → source.units ≡ length text → Reaches (RunsReading bound name.now text source.reading) result (streams (O.written out.old) (E.written err.old)) (streams (O.written out.new) (E.written err.new)) }
+    ensures read { result ≡ Ok Status.ReadFailed → ⊥ }
     ensures cause { IsErrOf result WriteRefusal.Failed → Rose (O.faults out.old) (O.faults out.new) ⊎ Rose (E.faults err.old) (E.faults err.new) }
     ensures out_faults { O.faults out.old ≤ O.faults out.new }
     ensures err_faults { E.faults err.old ≤ E.faults err.new }
 {
     let mut live = Live::open(alloc, bound)?;
-    live.give_source(source)?;
+    live.give_source(source);
     run_to_end(alloc, bound, name, &mut live, out, err)
 }
 
@@ -250,6 +256,7 @@ fn run_text<O: Sink, E: Sink>(
     err: &mut E,
 ) -> Result<Status, WriteRefusal>
     ensures reaches { Reaches (RunsText bound name.now text.now) result (streams (O.written out.old) (E.written err.old)) (streams (O.written out.new) (E.written err.new)) }
+    ensures read { result ≡ Ok Status.ReadFailed → ⊥ }
     ensures cause { IsErrOf result WriteRefusal.Failed → Rose (O.faults out.old) (O.faults out.new) ⊎ Rose (E.faults err.old) (E.faults err.new) }
     ensures out_faults { O.faults out.old ≤ O.faults out.new }
     ensures err_faults { E.faults err.old ≤ E.faults err.new }
@@ -270,6 +277,7 @@ fn run_bytes<O: Sink, E: Sink>(
     err: &mut E,
 ) -> Result<Status, WriteRefusal>
     ensures reaches { Reaches (RunsFile bound name.now (Text bytes.now)) result (streams (O.written out.old) (E.written err.old)) (streams (O.written out.new) (E.written err.new)) }
+    ensures read { result ≡ Ok Status.ReadFailed → ⊥ }
     ensures cause { IsErrOf result WriteRefusal.Failed → Rose (O.faults out.old) (O.faults out.new) ⊎ Rose (E.faults err.old) (E.faults err.new) }
     ensures out_faults { O.faults out.old ≤ O.faults out.new }
     ensures err_faults { E.faults err.old ≤ E.faults err.new }

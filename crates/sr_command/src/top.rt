@@ -5,9 +5,9 @@ ghost use Rattle.sr_command.specs.Words.{asked};
 ghost use Rattle.sr_command.specs.Writes.{streams};
 ghost use Rattle.sr_command.specs.Answers.{ReachesRun, Completes, BreaksOff, Starves, StarvesAtOnce};
 
-use crate::Status;
 use crate::run::{end_not_built, end_with, run_file};
 use crate::words::{command, is_unbuilt};
+use crate::{Status, laws};
 use sr_outside::{Loader, Sink, WriteRefusal};
 use std::alloc::Global;
 
@@ -35,6 +35,9 @@ const OUT_OF_MEMORY: u8 = 8;
 /// | 7 | a sink failed, and its count of faults rose in this call |
 /// | 8 | want of memory |
 /// | 9 | the file has a name, or holds a script, of a form that is not built |
+///
+/// After 7 and 8 the streams have gained the first writes of all that the run writes in the end, after 7 with a first part of
+/// the next one, and then a first part of the line `write failed` or `memory`.
 pub fn shadow_run<L: Loader, O: Sink, E: Sink>(
     alloc: Global,
     words: &Vec<String>,
@@ -56,6 +59,7 @@ pub fn shadow_run<L: Loader, O: Sink, E: Sink>(
     ensures read_cause { result ≡ 6 → Rose (L.faults loader.old) (L.faults loader.new) }
     ensures write_cause { result ≡ 7 → Rose (O.faults out.old) (O.faults out.new) ⊎ Rose (E.faults err.old) (E.faults err.new) }
 {
+    laws::one_run();
     match run_words(alloc, words, loader, out, err) {
         Ok(status) => status.code(),
         Err(WriteRefusal::Failed) => {

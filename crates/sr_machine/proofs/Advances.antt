@@ -2,7 +2,6 @@
 use Rattle.std.proofs.Common.{◌≡◌, ℕ, List, Option, Some, None, sym, ◌∙◌, subst, append-nil}
 use Rattle.std.specs.Io.KnownBytes.{Appends}
 use Rattle.std.proofs.KnownBytes.{Appends-nil}
-use Rattle.sr_ast.specs.declared.reading.Reading.{Reading}
 use Rattle.sr_outside.specs.Writing.{AppendsPart}
 use Rattle.sr_model.specs.Values.{Text}
 use Rattle.sr_state.specs.declared.ends.Next.{Next}
@@ -20,33 +19,34 @@ use Rattle.sr_machine.proofs.Kept.{Moves, kept}
 stop_same : (a b : StopAt) → advance.Stop a ≡ advance.Stop b → a ≡ b
 stop_same a b e = cc
 
-module _ (read : Text → Reading) (old h new : Held) (n : Next) (is : old ≡ h) (steps : FrameSteps h n new) where
+module _ (old h new : Held) (n : Next) (is : old ≡ h) (steps : FrameSteps h n new) where
   steps_at : (m : Next) → n ≡ m → FrameSteps old m new
   steps_at m e = subst (λ (h : Held). FrameSteps h m new) (sym is) (subst (λ (n : Next). FrameSteps h n new) e steps)
 
   -- nothing is printed
-  silent : (g : Held) (b : Option (List ℕ)) → ForRuns read old (λ bound z meaning v. Moves read z old n new bound meaning v g) → GoesOn read old g b b
-  silent g b k bound z meaning v u = (let a = k bound z meaning v u in (None, Appends-nil b, subst (λ vs. Under read bound z meaning vs g) (sym (append-nil v)) a.0, a.1, a.2))
+  silent : (g : Held) (b : Option (List ℕ)) → ForRuns old (λ read bound z meaning v. Moves read z old n new bound meaning v g) → GoesOn old g b b
+  silent g b k = (None, Appends-nil b, λ read bound z meaning v u. let a = k read bound z meaning v u in (subst (λ vs. Under read bound z meaning vs g) (sym (append-nil v)) a.0, a.1, a.2))
 
-  pub at_going : (b : Option (List ℕ)) → n ≡ next.Going → GoesOn read old new b b
-  at_going b e = silent new b (λ bound z meaning v u. kept read z old next.Going new bound meaning v (steps_at next.Going e) u)
+  pub at_going : (b : Option (List ℕ)) → n ≡ next.Going → GoesOn old new b b
+  at_going b e = silent new b (λ read bound z meaning v u. kept read z old next.Going new bound meaning v (steps_at next.Going e) u)
 
-  pub at_ended : (g : Held) (b : Option (List ℕ)) → n ≡ next.Ended → g ≡ below new.frames new → GoesOn read old g b b
-  at_ended g b e e' = subst (λ (g : Held). GoesOn read old g b b) (sym e') (silent (below new.frames new) b (λ bound z meaning v u. kept read z old next.Ended new bound meaning v (steps_at next.Ended e) u))
+  pub at_ended : (g : Held) (b : Option (List ℕ)) → n ≡ next.Ended → g ≡ below new.frames new → GoesOn old g b b
+  at_ended g b e e' = subst (λ (g : Held). GoesOn old g b b) (sym e') (silent (below new.frames new) b (λ read bound z meaning v u. kept read z old next.Ended new bound meaning v (steps_at next.Ended e) u))
 
-  pub at_printed : (text : Text) (g : Held) (b b' : Option (List ℕ)) → n ≡ next.Print text → g ≡ printed text new → Appends b b' (line_of text) → GoesOn read old g b b'
+  pub at_printed : (text : Text) (g : Held) (b b' : Option (List ℕ)) → n ≡ next.Print text → g ≡ printed text new → Appends b b' (line_of text) → GoesOn old g b b'
   at_printed text g b b' e e' appends =
-      subst (λ (g : Held). GoesOn read old g b b') (sym e')
-      (λ bound z meaning v u. let a = kept read z old (next.Print text) new bound meaning v (steps_at (next.Print text) e) u in (Some text, appends, a.0, a.1, a.2))
+      subst (λ (g : Held). GoesOn old g b b') (sym e')
+      (Some text, appends, λ read bound z meaning v u. kept read z old (next.Print text) new bound meaning v (steps_at (next.Print text) e) u)
 
-  pub at_broken : (text : Text) (b b' : Option (List ℕ)) → n ≡ next.Print text → AppendsPart b b' (line_of text) → BreaksOff read old b b'
-  at_broken text b b' e part bound z meaning v u = (let a = kept read z old (next.Print text) new bound meaning v (steps_at (next.Print text) e) u in (text, printed text new, part, a.0))
+  pub at_broken : (text : Text) (b b' : Option (List ℕ)) → n ≡ next.Print text → AppendsPart b b' (line_of text) → BreaksOff old b b'
+  at_broken text b b' e part =
+      (text, printed text new, part, λ read bound z meaning v u. let a = kept read z old (next.Print text) new bound meaning v (steps_at (next.Print text) e) u in a.0)
 
-  at_halted : (name : StopName) → n ≡ next.Halt name → StopsBy read name old new
-  at_halted name e bound z meaning v u = kept read z old (next.Halt name) new bound meaning v (steps_at (next.Halt name) e) u
+  at_halted : (name : StopName) → n ≡ next.Halt name → StopsBy name old new
+  at_halted name e read bound z meaning v u = kept read z old (next.Halt name) new bound meaning v (steps_at (next.Halt name) e) u
 
   -- the place that is named is that of the last tree that paid
-  pub at_stopped : (name : StopName) (source at : ℕ) (s : StopAt) (r : Advance) (g : Held) → n ≡ next.Halt name → IsLastPlace (record { name = name; source = source; at = at }) new.side → r ≡ advance.Stop (record { name = name; source = source; at = at }) → r ≡ advance.Stop s → g ≡ new → Stopped read s old g
+  pub at_stopped : (name : StopName) (source at : ℕ) (s : StopAt) (r : Advance) (g : Held) → n ≡ next.Halt name → IsLastPlace (record { name = name; source = source; at = at }) new.side → r ≡ advance.Stop (record { name = name; source = source; at = at }) → r ≡ advance.Stop s → g ≡ new → Stopped s old g
   at_stopped name source at s r g e last is-stop is-s same =
-      subst (λ (x : Held). Stopped read s old x) (sym same)
-      (subst (λ (x : StopAt). Stopped read x old new) (stop_same (record { name = name; source = source; at = at }) s (sym is-stop ∙ is-s)) (at_halted name e, last))
+      subst (λ (x : Held). Stopped s old x) (sym same)
+      (subst (λ (x : StopAt). Stopped x old new) (stop_same (record { name = name; source = source; at = at }) s (sym is-stop ∙ is-s)) (at_halted name e, last))

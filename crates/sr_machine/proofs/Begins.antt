@@ -65,7 +65,7 @@ module _ (read : Text → Reading) (bound : ℕ) (goal : Goal) (name : Name) (te
 
 pub begins : Begins
 begins read bound goal name text = record {
-  sound = record { here = refl; live = refl; bounded = refl; within = omega arith; ready = tt; waits = tt; rest = λ e. not_both false e refl };
+  sound = record { here = (refl, refl); live = refl; bounded = refl; within = omega arith; ready = tt; waits = tt; rest = λ e. not_both false e refl };
   offsets = 1 ∷ [];
   along = refl;
   least = 1;
@@ -108,7 +108,7 @@ module _ (read : Text → Reading) (bound : ℕ) (z : Tapes) (meaning : ℕ → 
       then_grows v (follow (language read) (live (language read) bound) (ev (language read) (live (language read) bound) d) c (world_of z v h) s) _ (follow_grows (language read) bound d s c (world_of z v h)) (after_grows (place_of h) h.frames ds))
 
 pub ends_at_rest : EndsAtRest
-ends_at_rest read h rest bound z meaning v u = ends_by read bound z meaning v h h.answer refl rest u
+ends_at_rest h rest read bound z meaning v u = ends_by read bound z meaning v h h.answer refl rest u
 
 pub writes_first : WritesFirst
-writes_first read h bound z meaning v u = (u.least, λ n le. subst (λ (r : LiveRan Holds). IsStart v (writes_of r)) (sym (u.same n le)) (comes_grows read bound z meaning v h (depths u.offsets n)))
+writes_first h read bound z meaning v u = (u.least, λ n le. subst (λ (r : LiveRan Holds). IsStart v (writes_of r)) (sym (u.same n le)) (comes_grows read bound z meaning v h (depths u.offsets n)))

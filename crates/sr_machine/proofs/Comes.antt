@@ -63,12 +63,8 @@ is_part t s (Part u j) h = λ i. Part (h.0 i) (λ e. h.1 e i)
 is_part t s y h = absurd h
 
 stop_why : (name : StopName) (y : Stop) (x : Side) → IsStop name y → IsWhy name (Stopped y) x
-stop_why (stop.Number s) y x h = (y, refl, h)
-stop_why stop.StringLength y x h = (y, refl, h)
-stop_why stop.CallDepth y x h = (y, refl, h)
-stop_why stop.SyntaxDepth y x h = (y, refl, h)
-stop_why (stop.Unsupported marker at) y x h = (y, refl, h)
 stop_why (stop.Steps used cost) y x h = absurd h
+stop_why name y x h = (y, refl, h)
 
 module _ (read : Text → Reading) (z : Tapes) (o : Outer) (under : List Frame) where
   abbrev pub Comes : Type 0
@@ -94,6 +90,7 @@ module _ (read : Text → Reading) (z : Tapes) (o : Outer) (under : List Frame) 
   -- all is over
   pub record Stopping (was : Comes) (v : List Write) (u : ℕ) (name : StopName) (g : Held) : Type 0 where
     pub used : g.side.used ≡ u
+    pub here : Here g.outer g.side
     pub why : Why
     pub calls : ℕ
     pub is : IsWhy name why g.side
@@ -126,6 +123,7 @@ module _ (read : Text → Reading) (z : Tapes) (o : Outer) (under : List Frame) 
     came_at paid v u (next.Print text) new c = (c.0, same_at (v ++ Printed text ∷ []) (printed text new) c.1)
     came_at paid v u (next.Halt name) new c = record {
       used = c.used;
+      here = c.here;
       why = c.why;
       calls = c.calls;
       is = c.is;
@@ -225,9 +223,10 @@ module _ (read : Text → Reading) (z : Tapes) (o : Outer) (no_cut : o.cut ≡ N
   held_is x fs left frames = sym (λ i. let g : Held = record { side = left.0 i; outer = left.2 i; answer = left.1 i; top = new.top; frames = frames i } in g)
 
   -- the run is over
-  stops : (paid : Bool) (x : Side) (k : ℕ) (s : language.Steps) (name : StopName) (why : Why) → Stops (next.Halt name) o x n new → IsWhy name why x → (j : ℕ) → ((D : ℕ) (ds : List ℕ) → j ≤ D → was x k s D ds ≡ over why (place_in o x k) (world_in z v o x)) → CameFrom paid x k s
-  stops paid x k s name why g w j e = subst (λ (n : Next). Came read z o under paid (was x k s) v x.used n new) (sym g.0) (record {
+  stops : (paid : Bool) (x : Side) (k : ℕ) (s : language.Steps) (name : StopName) (why : Why) → Here o x → Stops (next.Halt name) o x n new → IsWhy name why x → (j : ℕ) → ((D : ℕ) (ds : List ℕ) → j ≤ D → was x k s D ds ≡ over why (place_in o x k) (world_in z v o x)) → CameFrom paid x k s
+  stops paid x k s name why here g w j e = subst (λ (n : Next). Came read z o under paid (was x k s) v x.used n new) (sym g.0) (record {
     used = ap (λ (y : Side). y.used) g.1;
+    here = subst (λ (y : Side). Here new.outer y) (sym g.1) (subst (λ (p : Outer). Here p x) (sym g.2) here);
     why = why;
     calls = k;
     is = subst (IsWhy name why) (sym g.1) w;
@@ -239,8 +238,8 @@ module _ (read : Text → Reading) (z : Tapes) (o : Outer) (no_cut : o.cut ≡ N
   halt_is (next.Halt name) y h = (name, refl, h)
   halt_is a y h = absurd h
 
-  halts : (paid : Bool) (x : Side) (k : ℕ) (y : Stop) (name : StopName) → Stops (next.Halt name) o x n new → IsStop name y → CameFrom paid x k (Halt y)
-  halts paid x k y name g h = stops paid x k (Halt y) name (Stopped y) g (stop_why name y x h) 0 (λ D ds le. refl)
+  halts : (paid : Bool) (x : Side) (k : ℕ) (y : Stop) (name : StopName) → Here o x → Stops (next.Halt name) o x n new → IsStop name y → CameFrom paid x k (Halt y)
+  halts paid x k y name here g h = stops paid x k (Halt y) name (Stopped y) here g (stop_why name y x h) 0 (λ D ds le. refl)
 
   module _ (paid : Bool) (x : Side) (k : ℕ) (here : Here o x) where
     going : (s : language.Steps) (fs : List Frame) → n ≡ next.Going → Left o x new → new.frames ≡ fs → is_idle new.top.activity ≡ false → PaysFirst (script_of new.top Began) → Busy fs → frames_weight fs ≤ 2 + frames_weight under → SameAs x k s v (held x fs) → CameFrom paid x k s
@@ -352,7 +351,7 @@ module _ (read : Text → Reading) (z : Tapes) (o : Outer) (no_cut : o.cut ≡ N
     -- after an end or a payment
     pub later : (paid : Bool) (s : language.Steps) (x : Side) (k : ℕ) → Here o x → goes m (far paid) s stays under o x k n new → CameFrom paid x k s
     later paid (Give y) x k here g = ends read z o paid v x k here under n new y waits g.0 g.1 g.2 g.3 g.4
-    later paid (Halt y) x k here g = (let h = halt_is n y g.0 in halts paid x k y h.0 (h.1, g.1, g.2) h.2)
+    later paid (Halt y) x k here g = (let h = halt_is n y g.0 in halts paid x k y h.0 here (h.1, g.1, g.2) h.2)
     later paid (Look f) x k here g = alike 0 paid x x k k x.used (Look f) (f (realm_in x)) (λ D ds le. looks read z o v under x k D ds here f) (later paid (f (realm_in x)) x k here g)
     later paid (Change f s) x k here g =
         alike 0 paid x (change_in f x) k k x.used (Change f s) s (λ D ds le. changes read z o v under x k D ds here f s) (later paid s (change_in f x) k (here_along o x (with_inner f) refl here) g)
@@ -374,33 +373,33 @@ module _ (read : Text → Reading) (z : Tapes) (o : Outer) (no_cut : o.cut ≡ N
     first_as x x' k s s' u e same (inr h) =
         inr (h.0, h.1 ∙ e, (let a = h.2 in omega (arith, u, a)), alike 0 true x x' k k (x.used + suc h.0) s s' (λ D ds le. same D ds) (subst (λ u. CameAt true x' k s' (u + suc h.0)) u h.3))
 
-    first_over : (x : Side) (k : ℕ) (s : language.Steps) (name : StopName) (why : Why) → IsWhy name why x → (j : ℕ) → ((D : ℕ) (ds : List ℕ) → j ≤ D → was x k s D ds ≡ over why (place_in o x k) (world_in z v o x)) → Stops (next.Halt name) o x n new → First x k s
-    first_over x k s name why w j e g = inl (name, g.0, stops false x k s name why g w j e)
+    first_over : (x : Side) (k : ℕ) (s : language.Steps) (name : StopName) (why : Why) → Here o x → IsWhy name why x → (j : ℕ) → ((D : ℕ) (ds : List ℕ) → j ≤ D → was x k s D ds ≡ over why (place_in o x k) (world_in z v o x)) → Stops (next.Halt name) o x n new → First x k s
+    first_over x k s name why here w j e g = inl (name, g.0, stops false x k s name why here g w j e)
 
     -- a first charge, after which the rest goes on
-    first_pays : (x x' : Side) (k k' c j : ℕ) (s s' : language.Steps) → Here o x' → x'.used ≡ x.used + suc c → suc c ≡ first_charge s (realm_in x) →
+    first_pays : (x x' : Side) (k k' c j : ℕ) (s s' : language.Steps) → Here o x → Here o x' → x'.used ≡ x.used + suc c → suc c ≡ first_charge s (realm_in x) →
         (room_in o.bound x (suc c) ≡ true → (D : ℕ) (ds : List ℕ) → j ≤ D → was x k s D ds ≡ was x' k' s' D ds) →
         (room_in o.bound x (suc c) ≡ false → (D : ℕ) (ds : List ℕ) → j ≤ D → was x k s D ds ≡ over (live.Steps (suc c)) (place_in o x k) (world_in z v o x)) →
         Charged (suc c) o x n new (goes m Paid s' stays under o x' k' n new) → First x k s
-    first_pays x x' k k' c j s s' here u first same none g =
+    first_pays x x' k k' c j s s' here here' u first same none g =
         charged o no_cut n new (suc c) x _ g
-        (λ room g. inr (c, first, leb-true (x.used + suc c) o.bound room, alike j true x x' k k' (x.used + suc c) s s' (same room) (subst (CameAt true x' k' s') u (later true s' x' k' here g))))
-        (λ room. first_over x k s (stop.Steps x.used (suc c)) (live.Steps (suc c)) (refl, refl) j (none room))
+        (λ room g. inr (c, first, leb-true (x.used + suc c) o.bound room, alike j true x x' k k' (x.used + suc c) s s' (same room) (subst (CameAt true x' k' s') u (later true s' x' k' here' g))))
+        (λ room. first_over x k s (stop.Steps x.used (suc c)) (live.Steps (suc c)) here (refl, refl) j (none room))
 
     pub first : (s : language.Steps) (x : Side) (k : ℕ) → Here o x → PaysFirst s → goes m Fresh s stays under o x k n new → First x k s
-    first (Halt y) x k here pays g = (let h = halt_is n y g.0 in inl (h.0, h.1, halts false x k y h.0 (h.1, g.1, g.2) h.2))
+    first (Halt y) x k here pays g = (let h = halt_is n y g.0 in inl (h.0, h.1, halts false x k y h.0 here (h.1, g.1, g.2) h.2))
     first (Look f) x k here pays g = first_as x x k (Look f) (f (realm_in x)) refl refl (λ D ds. looks read z o v under x k D ds here f) (first (f (realm_in x)) x k here (pays (realm_in x)) g)
     first (Change f s) x k here pays g =
         first_as x (change_in f x) k (Change f s) s refl refl (λ D ds. changes read z o v under x k D ds here f s) (first s (change_in f x) k (here_along o x (with_inner f) refl here) pays g)
     first (Pay c s) x k here pays g =
-        first_pays x (pay_in (suc c) x) k k c 0 (Pay c s) s (here_along o x (with_steps (suc c)) refl here) refl refl
+        first_pays x (pay_in (suc c) x) k k c 0 (Pay c s) s here (here_along o x (with_steps (suc c)) refl here) refl refl
         (λ room D ds le. pays_exactly read z o v under x k D ds here c s room) (λ room D ds le. refused read z o v under x k D ds c s room) g
     first (Enter s) x k here pays g = by (may_enter k) refl g
       where
         by : (b : Bool) → may_enter k ≡ b → Where b (Charged 1 o x n new (goes m Paid s stays under o (pay_in 1 x) (suc k) n new)) (Stops (next.Halt stop.CallDepth) o x n new) → First x k (Enter s)
-        by false may g = first_over x k (Enter s) stop.CallDepth (Stopped CallDepth) (CallDepth, refl, refl) 0 (λ D ds le. too_deep read z o v under x k D ds s may) g
+        by false may g = first_over x k (Enter s) stop.CallDepth (Stopped CallDepth) here (CallDepth, refl, refl) 0 (λ D ds le. too_deep read z o v under x k D ds s may) g
         by true may g =
-            first_pays x (pay_in 1 x) k (suc k) 0 0 (Enter s) s (here_along o x (with_steps 1) refl here) refl refl
+            first_pays x (pay_in 1 x) k (suc k) 0 0 (Enter s) s here (here_along o x (with_steps 1) refl here) refl refl
             (λ room D ds le. enters read z o v under x k D ds here s may room) (λ room D ds le. shut read z o v under x k D ds s may room) g
     first (Part (Run a e t) s) x k here pays g = by (operand_of t) refl g
       where
@@ -409,7 +408,7 @@ module _ (read : Text → Reading) (z : Tapes) (o : Outer) (no_cut : o.cut ≡ N
         by None is g = absurd (let c = ap operand_charge is in omega (arith, c, pays))
         by (Some y) is g =
             (let x' = begun_in a t.from x in
-            first_pays x x' k k 0 1 (Part (Run a e t) s) (s (end_of y (realm_in x'))) (here_along o (pay_in 1 x) (with_inner (marked a t.from)) refl (here_along o x (with_steps 1) refl here)) refl (sym pays)
+            first_pays x x' k k 0 1 (Part (Run a e t) s) (s (end_of y (realm_in x'))) here (here_along o (pay_in 1 x) (with_inner (marked a t.from)) refl (here_along o x (with_steps 1) refl here)) refl (sym pays)
             (evaluates read z o v under x k a e t y is s here) (operand_refused read z o v under x k a e t y is s) g)
     first (Part (Apply f this args) s) x k here pays g = absurd pays
     first s x k here pays g = absurd pays

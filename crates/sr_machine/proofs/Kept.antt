@@ -19,7 +19,7 @@ use Rattle.sr_stmt.specs.Rows.{operation}
 use Rattle.sr_stmt.specs.Stages.{source_at}
 use Rattle.sr_call.specs.Stages.{built_in_at}
 use Rattle.sr_machine.specs.Stages.{tree_at, at_of, script_of, StepsOf, FrameSteps}
-use Rattle.sr_machine.specs.Worlds.{Tapes, place_of, world_of}
+use Rattle.sr_machine.specs.Worlds.{Tapes, Here, place_of, world_of}
 use Rattle.sr_machine.specs.Stack.{comes, depths}
 use Rattle.sr_machine.specs.Going.{PaysOnce, IsWhy, frame_weight, left_of, printed, Sound, Under}
 use Rattle.sr_machine.proofs.Exact.{from}
@@ -47,7 +47,7 @@ module _ (read : Text → Reading) (z : Tapes) (old : Held) (n : Next) (new : He
   Keeps bound meaning v next.Ended = Moves bound meaning v (below new.frames new)
   Keeps bound meaning v (next.Print text) = Moves bound meaning (v ++ Printed text ∷ []) (printed text new)
   Keeps bound meaning v (next.Halt name) =
-      (why : Why) × (calls : ℕ) × IsWhy name why new.side × PaysOnce old new
+      (why : Why) × (calls : ℕ) × IsWhy name why new.side × PaysOnce old new × Here new.outer new.side
       × (least : ℕ) × ((n : ℕ) → least ≤ n → meaning n ≡ over why (place_of new calls) (world_of z v new))
   Keeps bound meaning v next.CutOff = ⊥
 
@@ -106,7 +106,7 @@ module _ (read : Text → Reading) (z : Tapes) (old : Held) (n : Next) (new : He
       keeps_by next.Going is c = moves new v (subst IsHalt is) c
       keeps_by next.Ended is c = moves (below new.frames new) v (subst IsHalt is) c
       keeps_by (next.Print text) is c = moves (printed text new) (v ++ Printed text ∷ []) (subst IsHalt is) c
-      keeps_by (next.Halt name) is c = (let o = over_by name c os along same in (c.why, c.calls, c.is, (t.cost, c.used, t.once), o.0, o.1))
+      keeps_by (next.Halt name) is c = (let o = over_by name c os along same in (c.why, c.calls, c.is, (t.cost, c.used, t.once), c.here, o.0, o.1))
       keeps_by next.CutOff is c = absurd c
 
   -- frames of an activity that are put back stand for it

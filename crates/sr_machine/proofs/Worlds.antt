@@ -1,7 +1,7 @@
 -- What changes in the realm that runs changes in the world.
 use Rattle.std.proofs.Common.{◌≡◌, refl, sym, ap, ◌∙◌, ℕ, zero, suc, ◌+◌, Bool, true, false, List, [], ◌∷◌, ◌++◌, map}
 use Rattle.std.specs.Prelude.{slice_set}
-use Rattle.sr_model.specs.Values.{Text, Path, same}
+use Rattle.sr_model.specs.Values.{Text, Path, root, same}
 use Rattle.sr_model.specs.Realm.{Inner, Realm}
 use Rattle.sr_model.specs.World.{Slot, Write, Printed, World, Place, choose, change, put, pay, print}
 use Rattle.sr_model.specs.World as worlds
@@ -60,7 +60,7 @@ module _ (o : Outer) (x : Side) (g : Realm Holds → Realm Holds) (keeps : (let 
 
   -- the realm that runs is still found
   pub here_along : Here o x → Here o (realm_as g x)
-  here_along h = set_first x.own changed keeps o.others o.here h
+  here_along h = (set_first x.own changed keeps o.others o.here h.0, keeps ∙ h.1)
 
   -- and the places are the same
   pub places_along : place_in o (realm_as g x) ≡ place_in o x
@@ -71,11 +71,15 @@ module _ (z : Tapes) (o : Outer) (x : Side) (h : Here o x) where
   p = path_at (paths (table o x)) o.here
 
   own_path : p ≡ path_of x.own
-  own_path = path_first o.others o.here x.own h
+  own_path = path_first o.others o.here x.own h.0
+
+  -- and that is the root
+  pub at_root : p ≡ root
+  at_root = own_path ∙ h.1
 
   -- the world has the realm that runs at its path
   pub realm_here : realm_at (table o x) p ≡ realm_in x
-  realm_here = ap (realm_at (table o x)) own_path ∙ at_first o.others o.here x.own h
+  realm_here = ap (realm_at (table o x)) own_path ∙ at_first o.others o.here x.own h.0
 
   changed_in : (v : List Write) (g : Realm Holds → Realm Holds) (f : Slot Holds → Slot Holds) → (let r = g (realm_in x) in let s = realm_in x in r.path ≡ s.path) →
       (let a : Slot Holds = record { realm = realm_in x; tape = z p } in f a ≡ record { realm = g (realm_in x); tape = z p }) →
@@ -86,7 +90,7 @@ module _ (z : Tapes) (o : Outer) (x : Side) (h : Here o x) where
       (λ j. let w : World Holds = record {
         slots = λ q.
             (ap (λ r. let a : Slot Holds = record { realm = r; tape = z q } in a)
-            (set_realm x.own (changed o x g keeps) keeps o.others o.here h q ∙ ap (λ r. choose (same q r) (g (realm_in x)) (realm_at (table o x) q)) (sym own_path))
+            (set_realm x.own (changed o x g keeps) keeps o.others o.here h.0 q ∙ ap (λ r. choose (same q r) (g (realm_in x)) (realm_at (table o x) q)) (sym own_path))
             ∙ slot_as z q p (same q p) (g (realm_in x)) (realm_at (table o x) q) refl
             ∙ ap (λ (s : Slot Holds). choose (same q p) s (record { realm = realm_at (table o x) q; tape = z q })) (sym (ap (λ r. f (slot r)) realm_here ∙ does))) j;
         made = ps j;

@@ -35,9 +35,9 @@ abbrev pub printed_bytes : Option Text → List ℕ
 printed_bytes None = []
 printed_bytes (Some text) = line_of text
 
-abbrev pub write_of : Option Text → List Write
-write_of None = []
-write_of (Some text) = Printed text ∷ []
+abbrev pub writes_of : Option Text → List Write
+writes_of None = []
+writes_of (Some text) = Printed text ∷ []
 
 -- after a line of the frame on top: it is given an empty end
 abbrev pub printed : Text → Held → Held
@@ -120,36 +120,32 @@ module _ (read : Text → Reading) (bound : ℕ) (z : Tapes) where
     pub least : ℕ
     pub same : (n : ℕ) → least ≤ n → meaning n ≡ comes read bound z v h (depths offsets n)
 
--- whatever the state of a run comes to
-abbrev pub ForRuns : (Text → Reading) → Held → (ℕ → Tapes → (ℕ → LiveRan Holds) → List Write → Type 0) → Type 0
-ForRuns read h P = (bound : ℕ) (z : Tapes) (meaning : ℕ → LiveRan Holds) (v : List Write) → Under read bound z meaning v h → P bound z meaning v
+-- in each language, whatever the state of a run comes to
+abbrev pub ForRuns : Held → ((Text → Reading) → ℕ → Tapes → (ℕ → LiveRan Holds) → List Write → Type 0) → Type 0
+ForRuns h P =
+    (read : Text → Reading) (bound : ℕ) (z : Tapes) (meaning : ℕ → LiveRan Holds) (v : List Write) → Under read bound z meaning v h → P read bound z meaning v
 
--- the loop goes on: what was the state of a run is so after the step, which printed a line at most and paid once at most, and the number
--- has fallen
-abbrev pub GoesOn : (Text → Reading) → Held → Held → Option (List ℕ) → Option (List ℕ) → Type 0
-GoesOn read old new before after =
-    ForRuns read old (λ bound z meaning v.
-    (text : Option Text) × Appends before after (printed_bytes text) × Under read bound z meaning (v ++ write_of text) new
-    × (left_of new < left_of old) × PaysOnce old new)
+-- the loop goes on: the step printed a line at most. What was the state of a run is so after it, it paid once at most, and the number has
+-- fallen
+abbrev pub GoesOn : Held → Held → Option (List ℕ) → Option (List ℕ) → Type 0
+GoesOn old new before after =
+    (text : Option Text) × Appends before after (printed_bytes text)
+    × ForRuns old (λ read bound z meaning v. Under read bound z meaning (v ++ writes_of text) new × (left_of new < left_of old) × PaysOnce old new)
 
 -- why a stop ends the run
 abbrev pub IsWhy : StopName → Why → Side → Type 0
 IsWhy (stop.Steps used cost) why x = (why ≡ Steps cost) × (used ≡ x.used)
-IsWhy (stop.Number s) why x = (y : Stop) × (why ≡ Stopped y) × IsStop (stop.Number s) y
-IsWhy stop.StringLength why x = (y : Stop) × (why ≡ Stopped y) × IsStop stop.StringLength y
-IsWhy stop.CallDepth why x = (y : Stop) × (why ≡ Stopped y) × IsStop stop.CallDepth y
-IsWhy stop.SyntaxDepth why x = (y : Stop) × (why ≡ Stopped y) × IsStop stop.SyntaxDepth y
-IsWhy (stop.Unsupported marker at) why x = (y : Stop) × (why ≡ Stopped y) × IsStop (stop.Unsupported marker at) y
+IsWhy name why x = (y : Stop) × (why ≡ Stopped y) × IsStop name y
 
 -- the run is over by this stop, in the world of the new state
-abbrev pub StopsBy : (Text → Reading) → StopName → Held → Held → Type 0
-StopsBy read name old new =
-    ForRuns read old (λ bound z meaning v.
-    (why : Why) × (calls : ℕ) × IsWhy name why new.side × PaysOnce old new
+abbrev pub StopsBy : StopName → Held → Held → Type 0
+StopsBy name old new =
+    ForRuns old (λ read bound z meaning v.
+    (why : Why) × (calls : ℕ) × IsWhy name why new.side × PaysOnce old new × Here new.outer new.side
     × (least : ℕ) × ((n : ℕ) → least ≤ n → meaning n ≡ over why (place_of new calls) (world_of z v new)))
 
 -- a failing sink took a first part of the next line of the run
-abbrev pub BreaksOff : (Text → Reading) → Held → Option (List ℕ) → Option (List ℕ) → Type 0
-BreaksOff read old before after =
-    ForRuns read old (λ bound z meaning v.
-    (text : Text) × (next : Held) × AppendsPart before after (line_of text) × Under read bound z meaning (v ++ Printed text ∷ []) next)
+abbrev pub BreaksOff : Held → Option (List ℕ) → Option (List ℕ) → Type 0
+BreaksOff old before after =
+    (text : Text) × (next : Held) × AppendsPart before after (line_of text)
+    × ForRuns old (λ read bound z meaning v. Under read bound z meaning (v ++ Printed text ∷ []) next)

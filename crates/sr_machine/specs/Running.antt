@@ -9,7 +9,8 @@ use Rattle.sr_model.specs.World.{choose}
 use Rattle.sr_model.specs.Globals.{Holds}
 use Rattle.sr_conv.specs.Plain.{value_of}
 use Rattle.sr_worlds.specs.Evaluation.{Done, ev}
-use Rattle.sr_worlds.specs.Laws.{IsStart, writes_of}
+use Rattle.sr_worlds.specs.Laws.{IsStart}
+use Rattle.sr_worlds.specs.Laws as laws
 use Rattle.sr_worlds.specs.Live.{LiveRan, live}
 use Rattle.sr_worlds.specs.Run.{give, start}
 use Rattle.sr_state.specs.declared.frame.Frame.{Frame}
@@ -64,12 +65,12 @@ Begins = (read : Text → Reading) (bound : ℕ) (goal : Goal) (name : Name) (te
 
 -- where nothing is under way, a run has come to an end, which is what is given
 abbrev pub EndsAtRest : Type 0
-EndsAtRest = (read : Text → Reading) (h : Held) → AtRest h →
-    ForRuns read h (λ bound z meaning v. (o : Completion) × (h.answer ≡ answer.Done o) × (least : ℕ) × ((n : ℕ) → least ≤ n → meaning n ≡ Done (world_of z v h) (completion_of o)))
+EndsAtRest = (h : Held) → AtRest h →
+    ForRuns h (λ read bound z meaning v. (o : Completion) × (h.answer ≡ answer.Done o) × (least : ℕ) × ((n : ℕ) → least ≤ n → meaning n ≡ Done (world_of z v h) (completion_of o)))
 
 -- what was written is the beginning of all that a run writes
 abbrev pub WritesFirst : Type 0
-WritesFirst = (read : Text → Reading) (h : Held) → ForRuns read h (λ bound z meaning v. (least : ℕ) × ((n : ℕ) → least ≤ n → IsStart v (writes_of (meaning n))))
+WritesFirst = (h : Held) → ForRuns h (λ read bound z meaning v. (least : ℕ) × ((n : ℕ) → least ≤ n → IsStart v (laws.writes_of (meaning n))))
 
 -- the answer after the end
 abbrev pub answer_of : Ended → Advance
@@ -91,8 +92,8 @@ abbrev pub IsLastPlace : StopAt → Side → Type 0
 IsLastPlace s x = (let l = (realm_in x).inner.rest.last in (s.source ≡ l.source) × (s.at ≡ l.at))
 
 -- the run stopped
-abbrev pub Stopped : (Text → Reading) → StopAt → Held → Held → Type 0
-Stopped read s old new = StopsBy read s.name old new × IsLastPlace s new.side
+abbrev pub Stopped : StopAt → Held → Held → Type 0
+Stopped s old new = StopsBy s.name old new × IsLastPlace s new.side
 
 -- the report of the throw in which the source ended, in the realm as it is then
 abbrev pub thrown_of : Realm Holds → Answer → Option Text

@@ -1,6 +1,6 @@
 -- The world of a state, with paths in place of the places of the table. The tapes are told beside it, since the state keeps none yet.
 use Rattle.std.specs.Prelude.{◌≡◌, ℕ, zero, suc, false, List, [], ◌∷◌, map}
-use Rattle.sr_model.specs.Values.{Path, same}
+use Rattle.sr_model.specs.Values.{Path, root, same}
 use Rattle.sr_model.specs.Events.{Event}
 use Rattle.sr_model.specs.Realm.{Realm, fresh}
 use Rattle.sr_model.specs.World as worlds
@@ -56,9 +56,9 @@ First [] i p = ⊥
 First (x ∷ xs) zero p = path_of x ≡ p
 First (x ∷ xs) (suc i) p = (same p (path_of x) ≡ false) × First xs i p
 
--- the realm that runs is the first that has its path
+-- the realm that runs is the first that has its path. As yet it is the first realm
 abbrev pub Here : Outer → Side → Type 0
-Here o x = First (table o x) o.here (path_of x.own)
+Here o x = First (table o x) o.here (path_of x.own) × (path_of x.own ≡ root)
 
 -- the place of a frame with so many active calls: the realm that runs, and all that have an event under way
 abbrev pub place_at : List Path → ℕ → List Level → ℕ → Place

@@ -135,7 +135,7 @@ impl Live {
     /// Takes one step, in which at most one charge is paid and at most one line is printed, as one write. After a stop, a
     /// refused write or want of memory every further step answers the same and does nothing.
     pub fn advance<O: Sink>(&mut self, out: &mut O) -> Advance
-        ensures going { result ≡ Advance.Going → (read : Text → Reading) → GoesOn read self.old.held self.new.held (O.written out.old) (O.written out.new) }
+        ensures going { result ≡ Advance.Going → GoesOn self.old.held self.new.held (O.written out.old) (O.written out.new) }
         ensures on { result ≡ Advance.Going → self.new.over ≡ None }
         ensures over { Remembers result self.new.over }
         ensures thrown { (text : Text) → result ≡ Advance.Thrown text → AtRest self.old.held × (thrown_in self.old.held ≡ Some text) × (self.new ≡ told self.old) }
@@ -144,9 +144,9 @@ impl Live {
         ensures done { result ≡ Advance.Done → AtRest self.old.held × (thrown_in self.old.held ≡ None) × (self.new ≡ self.old) }
         ensures done_unwritten { result ≡ Advance.Done → O.written out.new ≡ O.written out.old }
         ensures rest { self.old.over ≡ None → AtRest self.old.held → (result ≡ Advance.Going → ⊥) × (result ≡ Advance.Write → ⊥) × ((s : _) → result ≡ Advance.Stop s → ⊥) }
-        ensures stop { self.old.over ≡ None → (s : _) → result ≡ Advance.Stop s → (read : Text → Reading) → Stopped read s self.old.held self.new.held }
+        ensures stop { self.old.over ≡ None → (s : _) → result ≡ Advance.Stop s → Stopped s self.old.held self.new.held }
         ensures stop_unwritten { (s : _) → result ≡ Advance.Stop s → O.written out.new ≡ O.written out.old }
-        ensures write { result ≡ Advance.Write → self.old.over ≡ None → (read : Text → Reading) → BreaksOff read self.old.held (O.written out.old) (O.written out.new) }
+        ensures write { result ≡ Advance.Write → self.old.over ≡ None → BreaksOff self.old.held (O.written out.old) (O.written out.new) }
         ensures cause { result ≡ Advance.Write → self.old.over ≡ None → Rose (O.faults out.old) (O.faults out.new) }
         ensures memory { result ≡ Advance.Memory → O.written out.new ≡ O.written out.old }
         ensures ended { IfSome self.old.over (λ end. (result ≡ answer_of end) × (self.new ≡ self.old) × (O.written out.new ≡ O.written out.old)) }

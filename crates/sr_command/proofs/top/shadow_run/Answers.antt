@@ -6,11 +6,12 @@ returns-in-Ok-clause-completes g c = λ _ _. rw (c.code.ensures, ← c.deref.ens
 
 pub returns-in-Err-Failed-clause-breaks_off : goal.returns-in-Err-Failed-clause-breaks_off
 returns-in-Err-Failed-clause-breaks_off g c = λ _.
-    rw (← c.deref.ensures.value)
-    (breaks_off _ _ _ _ _ _ _ c.in-Err-Failed.field-0 c.in-Err-Failed.field-0-is c.in-Err-Failed.ensures.reaches c.write_all.result c.write_all.ensures.ok c.write_all.ensures.part c.write_all.ensures.memory)
+    let w = c.write_all in
+    let f = c.in-Err-Failed in
+    rw (← c.deref.ensures.value) (breaks_off c.one_run.ensures.each _ _ _ _ _ _ _ f.field-0 f.field-0-is f.ensures.reaches w.result (w.ensures.ok, w.ensures.part, w.ensures.memory))
 
 pub returns-in-Err-Memory-clause-starves : goal.returns-in-Err-Memory-clause-starves
 returns-in-Err-Memory-clause-starves g c = λ _.
     let w = c.write_all-in-Err-Memory in
-    rw (← c.deref.ensures.value)
-    (starves _ _ _ _ _ _ _ c.in-Err-Memory.field-0 c.in-Err-Memory.field-0-is c.in-Err-Memory.ensures.reaches w.result w.ensures.ok w.ensures.part w.ensures.memory)
+    let f = c.in-Err-Memory in
+    rw (← c.deref.ensures.value) (starves c.one_run.ensures.each _ _ _ _ _ _ _ f.field-0 f.field-0-is f.ensures.reaches w.result (w.ensures.ok, w.ensures.part, w.ensures.memory))
