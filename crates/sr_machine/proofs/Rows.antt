@@ -46,7 +46,7 @@ statement_pays : (s e at : ℕ) (l : Layer) → PaysFirst (statement s e at l)
 statement_pays s e at layer.Empty = tt
 statement_pays s e at l = tt
 
-tree_pays : (s e : ℕ) (t : Tree) → PaysFirst (tree_row s e t)
+pub tree_pays : (s e : ℕ) (t : Tree) → PaysFirst (tree_row s e t)
 tree_pays s e t = on_either PaysFirst (is_statement (layer_of t)) _ _ (statement_pays s e t.from (layer_of t)) (expression_pays s e t.from (layer_of t))
 
 -- one of two scripts, and one of two stages
@@ -74,7 +74,7 @@ tree_begins : (t : Tree) (s : ℕ) (kept : Kept) (g : Given) → tree_at t s 0 k
 tree_begins t s kept g =
     either_at (is_statement (layer_of t)) _ _ s 0 kept g _ _ (statement_begins s t.from kept g (layer_of t)) (expression_begins s t.from kept g (layer_of t))
 
-built_in_pays : (b : BuiltIn) (this : Value) (args : List Value) → PaysFirst (built_in_row b this args)
+pub built_in_pays : (b : BuiltIn) (this : Value) (args : List Value) → PaysFirst (built_in_row b this args)
 built_in_pays built_in.Print this args = tt
 
 -- no function that is built asks for the this value

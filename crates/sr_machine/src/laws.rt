@@ -1,7 +1,23 @@
-//! How a run begins, what is left where nothing is under way, and what was written. Each function here is a law: it does nothing, and
-//! its contract is proved.
+//! That each row pays first, how a run begins, what is left where nothing is under way, and what was written. Each function here is a
+//! law: it does nothing, and its contract is proved.
 
+ghost use Rattle.std.specs.Prelude.{ℕ, List};
+ghost use Rattle.sr_ast.specs.declared.reading.SourceCode.{SourceCode};
+ghost use Rattle.sr_ast.specs.declared.tree.Tree.{Tree};
+ghost use Rattle.sr_model.specs.Values.{Value};
+ghost use Rattle.sr_state.specs.declared.frame.BuiltIn.{BuiltIn};
+ghost use Rattle.sr_stmt.specs.Rows.{source as source_row};
+ghost use Rattle.sr_call.specs.Rows.{built_in_row};
+ghost use Rattle.sr_machine.specs.Language.{tree_row};
+ghost use Rattle.sr_machine.specs.Going.{PaysFirst};
 ghost use Rattle.sr_machine.specs.Running.{Begins, EndsAtRest, WritesFirst};
+
+/// Each row pays before it makes a part, prints a line, ends or becomes another task.
+pub fn each_row_pays_first()
+    ensures tree { (s e : ℕ) (t : Tree) → PaysFirst (tree_row s e t) }
+    ensures built_in { (b : BuiltIn) (this : Value) (args : List Value) → PaysFirst (built_in_row b this args) }
+    ensures source { (x : SourceCode) → PaysFirst (source_row x) }
+{}
 
 /// A run that was given a text is the state of what the first realm does with that text.
 pub fn a_run_begins()
