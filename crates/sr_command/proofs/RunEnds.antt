@@ -29,7 +29,7 @@ use Rattle.sr_machine.specs.Running.{thrown_of, thrown_in, source_run, source_ta
 use Rattle.sr_machine.specs.Running as running
 use Rattle.sr_machine.specs.declared.live.StopAt.{StopAt}
 use Rattle.sr_machine.proofs.Worlds.{realm_here, at_root}
-use Rattle.sr_machine.proofs.LawProofs.{left_at_rest}
+use Rattle.sr_machine.proofs.Begins.{ends_at_rest}
 use Rattle.sr_command.specs.declared.status.Status.{Status}
 use Rattle.sr_command.specs.declared.status.Status.TheVariants as status
 use Rattle.sr_command.specs.Writes.{Write, err, IsCut, later, Streams, Gains, streams}
@@ -135,11 +135,11 @@ module _ (bound : ℕ) (name text : List ℕ) (r : Reading) (h : Held) (before n
   done x after e e' told rest same is =
       ends (last_ending name told) x after e e' same (λ reader reads.
       let u = so.under reader reads in
-      let left = left_at_rest reader bound _ _ so.written h u rest in
-      let n = left.2.0 in (
+      let left = ends_at_rest h rest reader bound _ _ so.written u in
+      let n = left.2 in (
         suc n,
         inl (sym (
-            ap (λ m. course_of bound (finish reader bound name (suc n) m)) (left.2.1 (suc n) (omega arith))
+            ap (λ m. course_of bound (finish reader bound name (suc n) m)) (left.3 (suc n) (omega arith))
             ∙ done_course (source_tapes Script name text) so.written h u.sound.here reader name so.caught bound n left.0 told (ap (thrown_of (realm_in h.side)) (sym left.1) ∙ is))),
       ))
 

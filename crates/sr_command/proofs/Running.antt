@@ -11,7 +11,7 @@ use Rattle.sr_state.specs.Held.{Held}
 use Rattle.sr_machine.specs.Language.{source_of}
 use Rattle.sr_machine.specs.Going.{line_of, printed_bytes, writes_of, Under, GoesOn, BreaksOff, left_of}
 use Rattle.sr_machine.specs.Running.{Running, given, source_run, source_tapes}
-use Rattle.sr_machine.proofs.LawProofs.{begins, first_writes}
+use Rattle.sr_machine.proofs.Begins.{begins, writes_first}
 use Rattle.sr_command.specs.Writes.{Write, out, Gains, IsCut, here, later, first_bytes, streams}
 use Rattle.sr_command.specs.Courses.{write_of, is_uncaught}
 use Rattle.sr_command.specs.Runs.{reading_run, RunsReading}
@@ -60,7 +60,7 @@ module _ (bound : ℕ) (name text : List ℕ) (r : Reading) where
   -- what was written is a point of the run
   point : (v : List worlds.Write) (h : Held) → IsRunOf v h → RunsReading bound name text r (record { writes = map write_of v; status = None })
   point v h under read same =
-      let first = first_writes read bound _ _ v h (under read same) in
+      let first = writes_first h read bound _ _ v (under read same) in
       (first.0, point_leads bound v (reading_run read bound name text first.0) (finish_starts read bound name first.0 v (source_run read bound Script name text first.0) (first.1 first.0 (omega arith))))
 
   module _ (h : Held) (before now : Option (List ℕ)) (so : SoFar h before now) where

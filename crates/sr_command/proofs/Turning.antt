@@ -7,18 +7,15 @@ use Rattle.sr_model.specs.Events.{Message, Settle, Turn, Took}
 use Rattle.sr_model.specs.Scripts.{Language}
 use Rattle.sr_model.specs.World.{Write, World, Place, Told, Pending, cross, event}
 use Rattle.sr_model.specs.Globals.{Holds}
-use Rattle.sr_worlds.specs.Evaluation.{Done, Over, then_do, ev}
+use Rattle.sr_worlds.specs.Evaluation.{then_do, ev}
 use Rattle.sr_worlds.specs.Fitting.{fits}
-use Rattle.sr_worlds.specs.Live.{LiveReach, LiveRan, worked, live}
+use Rattle.sr_worlds.specs.Live.{LiveRan, worked, live}
 use Rattle.sr_worlds.specs.Run.{idle, settled, is_of, uncaught, give, settle, next, turns, ran_all}
 use Rattle.sr_worlds.specs.Laws.{writes_of, IsStart}
 use Rattle.sr_worlds.proofs.LiveLarger.{live_writes}
 use Rattle.sr_machine.specs.Language.{language}
-use Rattle.sr_command.proofs.Leading.{start_self, start_more}
-
-then_starts : {R A B : Type 0} → (v : List Write) (r : LiveReach R A) (go : World R → A → LiveReach R B) → IsStart v (writes_of r) → ((w : World R) (x : A) → IsStart w.writes (writes_of (go w x))) → IsStart v (writes_of (then_do r go))
-then_starts v (Done w x) go start all = start_more v w.writes (writes_of (go w x)) start (all w x)
-then_starts v (Over w e) go start all = start
+use Rattle.sr_machine.proofs.Grows.{start_self, then_grows}
+use Rattle.sr_command.proofs.Leading.{start_more}
 
 module _ {T R : Type 0} (l : Language T R) (bound d : ℕ) where
   -- with no depth a task writes nothing
@@ -35,13 +32,13 @@ module _ {T R : Type 0} (l : Language T R) (bound d : ℕ) where
     settle_starts w t (Some row) =
         let w1 : World R = cross row.parent row.child (settled t.outcome) w in
         let m : Message = Settle row.asked (told_of t.outcome) in
-        then_starts w.writes (give l (ev l (live l bound) d) row.parent m w1) (λ w' o. again w') (give_starts row.parent m w1) (λ w' o. all w')
+        then_grows w.writes (give l (ev l (live l bound) d) row.parent m w1) (λ w' o. again w') (give_starts row.parent m w1) (λ w' o. all w')
 
     next_starts : (w : World R) (told : List Told) (tickets : List Path) → IsStart w.writes (writes_of (next l (ev l (live l bound) d) again w told tickets))
     next_starts w (t ∷ told) tickets = settle_starts (record w { told = told }) t (find (is_of t) w.pending)
     next_starts w [] (p ∷ tickets) =
         let w1 : World R = record w { tickets = tickets } in
-        then_starts w.writes (give l (ev l (live l bound) d) p Turn w1) (λ w' o. again w') (give_starts p Turn w1) (λ w' o. all w')
+        then_grows w.writes (give l (ev l (live l bound) d) p Turn w1) (λ w' o. again w') (give_starts p Turn w1) (λ w' o. all w')
     next_starts w [] [] = start_self w.writes
 
   turns_start : (k : ℕ) (w : World R) → IsStart w.writes (writes_of (turns l (ev l (live l bound) d) k w))
@@ -65,5 +62,5 @@ module _ (read : Text → Reading) (bound : ℕ) (name : Name) (d : ℕ) where
   pub finish_starts : (v : List Write) (r : LiveRan Holds) → IsStart v (writes_of r) → IsStart v (writes_of (finish r))
   finish_starts v r start =
       let turning = λ (w : World Holds) (o : Completion). turned w (uncaught (language read) name o (w.slots root)) in
-      then_starts v (then_do r turning) (λ w o. ran_all (language read) (ev (language read) (live (language read) bound) d) d w [])
-      (then_starts v r turning start (λ w o. turned_starts w (uncaught (language read) name o (w.slots root)))) (λ w o. start_self w.writes)
+      then_grows v (then_do r turning) (λ w o. ran_all (language read) (ev (language read) (live (language read) bound) d) d w [])
+      (then_grows v r turning start (λ w o. turned_starts w (uncaught (language read) name o (w.slots root)))) (λ w o. start_self w.writes)
