@@ -81,7 +81,7 @@ fn run_of_broken(alloc: Global, at: usize) -> Result<Live, Fail> {
     live.give_source(SourceCode {
         reading: Reading::Refused(Refused::Syntax(at)),
         units: at,
-    })?;
+    });
     Ok(live)
 }
 
