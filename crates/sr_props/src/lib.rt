@@ -1,0 +1,10 @@
+//! Tables of the properties of objects, and the order in which their keys are listed.
+#![tactic(auto)]
+
+/// Keys of properties, and what is asked of them.
+mod key;
+/// Tables of properties.
+mod table;
+
+pub use key::{PropKey, Rank};
+pub use table::Table;
