@@ -1,14 +1,14 @@
 -- The own keys are the keys, sorted by their ranks.
-use Rattle.std.proofs.Common.{◌≡◌, ℕ, ◌==◌, Bool, true, false, cond, List, [], ◌∷◌, ◌++◌, filter, nat_lt, nat_cmp, is_lt, Less, Equal, Greater, refl, sym, ap, ap₂, ◌∙◌, append_assoc, true≢false, if◌then◌else◌}
+use Rattle.std.proofs.Common.{◌≡◌, ℕ, ◌+◌, get_or, ◌==◌, Bool, true, false, cond, List, [], ◌∷◌, ◌++◌, filter, nat_lt, nat_cmp, is_lt, Less, Equal, Greater, refl, sym, ap, ap₂, ◌∙◌, append_assoc, true≢false, if◌then◌else◌}
 use Rattle.std.specs.List.{AllByRecursion}
-use Rattle.std.specs.List.Sorted.{IsSortedBy, IsStableBy}
+use Rattle.std.specs.List.Sorted.{IsPermutation, IsSortedBy, IsStableBy}
 use Rattle.std.proofs.lemmas.List.Sorted.{ranks_by}
 use Rattle.sr_props.specs.declared.key.Rank.{Rank}
 use Rattle.sr_props.specs.declared.key.Rank.TheVariants.{Index, Text, Symbol}
 use Rattle.sr_props.specs.contracts.key.RankOrd.TheImpl as rank_ord
 use Rattle.sr_props.specs.contracts.key.RankOrd.TheImpl.Laws.{total-law}
-use Rattle.sr_props.specs.OwnKeys.{is_index, is_text, is_symbol, number_of, insert_index, ascending, own_keys}
-use Rattle.sr_props.proofs.Sorted.{insert_sorted, sort, sorted_is}
+use Rattle.sr_props.specs.OwnKeys.{is_index, is_text, is_symbol, number_of, insert_index, ascending, own_keys, is_listed_before}
+use Rattle.sr_props.proofs.Sorted.{insert_sorted, sort, sorted_is, IsPermutation-sort, IsSortedBy-sort}
 
 -- whether keys of the first rank are listed before those of the second
 abbrev before : Rank → Rank → Bool
@@ -20,6 +20,17 @@ lower m n =
       | true ↦ refl
       | false ↦ elim (m == n) as (λ b. is_lt (cond b Equal Greater) ≡ false) [ true ↦ refl | false ↦ refl ]
     ]
+
+before_is : (r s : Rank) → before r s ≡ is_listed_before r s
+before_is (Index m) (Index n) = lower m n
+before_is (Index m) Text = refl
+before_is (Index m) Symbol = refl
+before_is Text (Index n) = refl
+before_is Text Text = refl
+before_is Text Symbol = refl
+before_is Symbol (Index n) = refl
+before_is Symbol Text = refl
+before_is Symbol Symbol = refl
 
 index_is : (r : Rank) → is_index r ≡ true → r ≡ Index (number_of r)
 index_is (Index n) p = refl
@@ -147,3 +158,11 @@ module _ {K : Type 0} (rank : K → Rank) where
 
   pub listed : (ks ls : List K) → IsSortedBy listed_before ls → IsStableBy listed_before ks ls → ls ≡ own_keys rank ks
   listed ks ls up stable = sorted_is listed_before (ranks_by total-law rank) ks ls up stable ∙ sym (sorted_by_rank ks)
+
+  pub are_the_keys : (ks : List K) → IsPermutation ks (own_keys rank ks)
+  are_the_keys ks = rw (sorted_by_rank ks) (IsPermutation-sort listed_before ks)
+
+  pub ascend : (ks : List K) → IsSortedBy (λ k l. is_listed_before (rank k) (rank l)) (own_keys rank ks)
+  ascend ks k d from within =
+      let up : IsSortedBy listed_before (own_keys rank ks) = rw (sorted_by_rank ks) (IsSortedBy-sort listed_before (ranks_by total-law rank) ks) in
+      sym (before_is (rank (get_or (own_keys rank ks) (k + 1) d)) (rank (get_or (own_keys rank ks) k d))) ∙ up k d from within

@@ -1,8 +1,8 @@
 -- A list that ascends, in which what ties stands in the order of another list, is that other list, sorted by insertion.
-use Rattle.std.proofs.Common.{◌≡◌, ℕ, suc, ◌<◌, ◌≤◌, Bool, true, false, not, cond, ◌&&◌, List, [], ◌∷◌, length, get_or, filter, refl, sym, ap, ◌∙◌, arith, true≢false, if◌then◌else◌}
+use Rattle.std.proofs.Common.{◌≡◌, ℕ, zero, suc, add-one, ◌<◌, ◌≤◌, Bool, true, false, not, cond, ◌&&◌, List, [], ◌∷◌, length, get_or, filter, refl, sym, ap, ◌∙◌, arith, true≢false, if◌then◌else◌}
 use Rattle.std.specs.Cmp.{IsStrictWeakOrder}
-use Rattle.std.specs.List.Sorted.{IsSortedBy, IsStableBy, ties}
-use Rattle.std.proofs.lemmas.List.Sorted.{sorted_far}
+use Rattle.std.specs.List.Sorted.{IsPermutation, IsSortedBy, IsStableBy, ties}
+use Rattle.std.proofs.lemmas.List.Sorted.{sorted_far, IsPermutation-refl, IsPermutation-sym, IsPermutation-cons, IsPermutation-middle, IsPermutation-trans}
 
 module _ {X : Type 0} (lt : X → X → Bool) where
   -- one more element of a list that ascends: behind those that are before it
@@ -31,6 +31,31 @@ module _ {X : Type 0} (lt : X → X → Bool) where
   ascends [] h = tt
   ascends (x ∷ xs) h =
       (none_before x xs (λ k l. h 0 (suc k) x (omega arith) (omega arith)), ascends xs (λ i j d p q. h (suc i) (suc j) d (omega arith) (omega arith)))
+
+  at_front : (x : X) (xs : List X) (d : X) → 0 < length xs → NoneBefore x xs → lt (get_or xs 0 d) x ≡ false
+  at_front x [] d some above = absurd (omega arith)
+  at_front x (y ∷ xs) d some above = above.0
+
+  -- no element is before the one at the place before it
+  neighbours : (xs : List X) → Ascends xs → (k : ℕ) (d : X) → suc k < length xs → lt (get_or xs (suc k) d) (get_or xs k d) ≡ false
+  neighbours [] up k d within = absurd (omega arith)
+  neighbours (x ∷ xs) up zero d within = at_front x xs d (omega arith) up.0
+  neighbours (x ∷ xs) up (suc k) d within = neighbours xs up.1 k d (omega arith)
+
+  is_sorted : (xs : List X) → Ascends xs → IsSortedBy lt xs
+  is_sorted xs up k d from within = rw add-one (neighbours xs up k d (omega arith))
+
+  IsPermutation-insert : (x : X) (ys : List X) → IsPermutation (x ∷ ys) (insert_sorted x ys)
+  IsPermutation-insert x [] = IsPermutation-refl (x ∷ [])
+  IsPermutation-insert x (y ∷ ys) =
+      elim (lt y x) as (λ b. IsPermutation (x ∷ y ∷ ys) (if b then y ∷ insert_sorted x ys else x ∷ y ∷ ys)) [
+        | true ↦ IsPermutation-trans _ (y ∷ x ∷ ys) _ (IsPermutation-sym (y ∷ x ∷ ys) (x ∷ y ∷ ys) (IsPermutation-middle (y ∷ []) x ys)) (IsPermutation-cons y (x ∷ ys) (insert_sorted x ys) (IsPermutation-insert x ys))
+        | false ↦ IsPermutation-refl (x ∷ y ∷ ys)
+      ]
+
+  pub IsPermutation-sort : (xs : List X) → IsPermutation xs (sort xs)
+  IsPermutation-sort [] = IsPermutation-refl []
+  IsPermutation-sort (x ∷ xs) = IsPermutation-trans _ (x ∷ sort xs) _ (IsPermutation-cons x xs (sort xs) (IsPermutation-sort xs)) (IsPermutation-insert x (sort xs))
 
 module _ {X : Type 0} (lt : X → X → Bool) (order : IsStrictWeakOrder lt) where
   not_before_itself : (x : X) → lt x x ≡ false
@@ -83,6 +108,9 @@ module _ {X : Type 0} (lt : X → X → Bool) (order : IsStrictWeakOrder lt) whe
   ascends-sort : (xs : List X) → Ascends lt (sort lt xs)
   ascends-sort [] = tt
   ascends-sort (x ∷ xs) = ascends-insert x (sort lt xs) (ascends-sort xs)
+
+  pub IsSortedBy-sort : (xs : List X) → IsSortedBy lt (sort lt xs)
+  IsSortedBy-sort xs = is_sorted lt (sort lt xs) (ascends-sort xs)
 
   -- ---- and leaves what ties as it stood
 

@@ -24,6 +24,17 @@ number_of (Index n) = n
 number_of Text = 0
 number_of Symbol = 0
 
+-- whether keys of the first rank are listed before those of the second: an array index before one of a greater number, array
+-- indices before other strings, and these before symbols
+abbrev pub is_listed_before : Rank → Rank → Bool
+is_listed_before (Index m) (Index n) = nat_lt m n
+is_listed_before (Index m) Text = true
+is_listed_before (Index m) Symbol = true
+is_listed_before Text (Index n) = false
+is_listed_before Text Text = false
+is_listed_before Text Symbol = true
+is_listed_before Symbol r = false
+
 module _ {K : Type 0} (rank : K → Rank) where
   -- one more array index among some that ascend: behind those whose numbers are lower
   abbrev pub insert_index : K → List K → List K

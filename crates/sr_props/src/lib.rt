@@ -3,6 +3,8 @@
 
 /// Keys of properties, and what is asked of them.
 mod key;
+/// Laws of the order of own keys.
+pub mod laws;
 /// Tables of properties.
 mod table;
 
