@@ -1,4 +1,5 @@
 -- The comparisons of ECMA-262 7.2.
+pub use Rattle.sr_model.specs.Sameness.{same_truth, same_description, same_symbol}
 use Rattle.std.specs.Prelude.{ℤ, Bool, true, false, ◌&&◌, nat_eq, Option, None, Some}
 use Rattle.std.specs.Ordering.{nat_cmp, int_cmp, int_eq, is_lt}
 use Rattle.std.specs.Cmp.Lexicographic.{slice_cmp}
@@ -38,26 +39,6 @@ is_less_than x y = and_then (to_primitive x) (λ p. and_then (to_primitive y) (�
 -- and where the right operand x comes second: it is made a primitive after y
 abbrev pub is_less_than_right : Value → Value → Computed (Option Bool)
 is_less_than_right x y = and_then (to_primitive y) (λ q. and_then (to_primitive x) (λ p. primitive_less p q))
-
--- whether two descriptions are one
-abbrev pub same_description : Option Text → Option Text → Bool
-same_description None None = true
-same_description None (Some t) = false
-same_description (Some s) None = false
-same_description (Some s) (Some t) = same s t
-
--- whether two symbols are one
-abbrev pub same_symbol : Symbol → Symbol → Bool
-same_symbol (WellKnown m) (WellKnown n) = nat_eq m n
-same_symbol (Registered s) (Registered t) = same s t
-same_symbol (Made p m s) (Made q n t) = same p q && nat_eq m n && same_description s t
-same_symbol a b = false
-
--- whether two truth values are one
-abbrev pub same_truth : Bool → Bool → Bool
-same_truth true b = b
-same_truth false true = false
-same_truth false false = true
 
 -- 7.2.15 IsStrictlyEqual, of primitives
 abbrev pub strictly_equal_primitives : Primitive → Primitive → Bool

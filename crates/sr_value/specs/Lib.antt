@@ -1,2 +1,4 @@
 pub mod Equality
 pub mod Made
+pub mod Plain
+pub mod Exact
