@@ -1,0 +1,5 @@
+pub mod Tables
+pub mod Objects
+pub mod Lives
+pub mod Ways
+pub mod Methods
