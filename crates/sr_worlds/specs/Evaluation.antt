@@ -1,5 +1,5 @@
 -- The one recursion over the scripts of a language, over any outside.
-use Rattle.std.specs.Prelude.{ℕ, zero, suc}
+use Rattle.std.specs.Prelude.{ℕ, zero, suc, Bool, true, false}
 use Rattle.sr_model.specs.Values.{Text, Name, Crossing, Passed}
 use Rattle.sr_model.specs.Outcomes.{Outcome, Completion, Stop}
 use Rattle.sr_model.specs.Events.{Answer}
@@ -16,6 +16,11 @@ pub data Ran (S E A : Type 0) : Type 0 where
 abbrev pub then_do : {S E A B : Type 0} → Ran S E A → (S → A → Ran S E B) → Ran S E B
 then_do (Done s x) go = go s x
 then_do (Over s e) go = Over s e
+
+-- where a test fails, an end of all
+abbrev pub provided : {S E A : Type 0} → Bool → S → E → Ran S E A → Ran S E A
+provided true s e r = r
+provided false s e r = Over s e
 
 -- the last state, whatever the end
 abbrev pub state_of : {S E A : Type 0} → Ran S E A → S

@@ -5,10 +5,10 @@ use Rattle.sr_model.specs.Events.{Event}
 use Rattle.sr_model.specs.Scripts.{Language}
 use Rattle.sr_model.specs.World.{Link, Pending, Write, World}
 use Rattle.sr_worlds.specs.Evaluation.{Ran, Done, Over}
-use Rattle.sr_worlds.specs.Live.{Why, Stopped, Steps, Open, Broken, Short, LiveEnd, LiveReach, LiveRan}
+use Rattle.sr_worlds.specs.Live.{Why, Open, Short, LiveEnd, LiveReach, LiveRan}
 use Rattle.sr_worlds.specs.Run.{realm_of, tape_of, world_of}
-use Rattle.sr_worlds.specs.Solo.{SoloEnd, CutOff, Halted, Bound, Unfit, Spent}
-use Rattle.sr_worlds.specs.Replay.{Verdict, Fits, Misfit, Bounded, Unknown, replay}
+use Rattle.sr_worlds.specs.Solo.{SoloEnd, Bound, Spent}
+use Rattle.sr_worlds.specs.Replay.{Verdict, Fits, Bounded, Unknown, replay}
 
 -- with every large enough depth, the replay of the tape has this verdict
 abbrev pub Replays : {T R : Type 0} → Language T R → ℕ → Path → List Event → Verdict R → Type 0
@@ -16,11 +16,9 @@ Replays l bound p tape v = (least : ℕ) × ((n : ℕ) → least ≤ n → repla
 
 -- it is no end of a run where answers or depth were missing
 abbrev pub Ends : Why → Type 0
-Ends (Stopped x) = Unit {0}
-Ends (Steps x) = Unit {0}
-Ends Broken = Unit {0}
 Ends Open = ⊥
 Ends Short = ⊥
+Ends why = Unit {0}
 
 -- a run has come to its end: nothing is left to do, or it stopped
 abbrev pub Ended : {R : Type 0} → LiveRan R → Type 0
@@ -35,23 +33,19 @@ Isolated l bound p r = Ended r → Replays l bound p (tape_of p r) (Fits (realm_
 abbrev pub Alike : {R : Type 0} → Path → LiveRan R → LiveRan R → Type 0
 Alike p r r' = Ended r → Ended r' → tape_of p r ≡ tape_of p r' → realm_of p r ≡ realm_of p r'
 
--- A is claimed where the test does not hold
-abbrev pub Unless : Bool → Type 0 → Type 0
-Unless true A = Unit {0}
-Unless false A = A
+-- whether it ended by giving up
+abbrev pub gave_up : {S E A : Type 0} → (E → Bool) → Ran S E A → Bool
+gave_up is_up (Done s x) = false
+gave_up is_up (Over s e) = is_up e
 
 -- it comes to the same, unless it had given up
 abbrev pub Lasts : {S E A : Type 0} → (E → Bool) → Ran S E A → Ran S E A → Type 0
-Lasts gave_up (Done s x) r = r ≡ Done s x
-Lasts gave_up (Over s e) r = Unless (gave_up e) (r ≡ Over s e)
+Lasts is_up r r' = gave_up is_up r ≡ false → r' ≡ r
 
 -- a run gives up where tasks are nested too deep
 abbrev pub is_short : Why → Bool
-is_short (Stopped x) = false
-is_short (Steps x) = false
-is_short Open = false
-is_short Broken = false
 is_short Short = true
+is_short why = false
 
 -- whether an end is that of a run which gave up
 abbrev pub short : LiveEnd → Bool
@@ -61,23 +55,18 @@ short e = is_short e.why
 abbrev pub gives_up : Bool → SoloEnd → Bool
 gives_up grows (Bound x) = grows
 gives_up grows Spent = true
-gives_up grows CutOff = false
-gives_up grows Halted = false
-gives_up grows Unfit = false
+gives_up grows e = false
 
 -- a verdict that more depth does not change
 abbrev pub Known : {R : Type 0} → Verdict R → Type 0
-Known (Fits r) = Unit {0}
-Known (Misfit i) = Unit {0}
-Known (Bounded r x) = Unit {0}
 Known Unknown = ⊥
+Known v = Unit {0}
 
 -- a verdict that a larger bound does not change either
 abbrev pub Certain : {R : Type 0} → Verdict R → Type 0
-Certain (Fits r) = Unit {0}
-Certain (Misfit i) = Unit {0}
 Certain (Bounded r x) = ⊥
 Certain Unknown = ⊥
+Certain v = Unit {0}
 
 -- what was written up to the last world, whatever the end
 abbrev pub writes_of : {R A : Type 0} → LiveReach R A → List Write

@@ -1,7 +1,7 @@
 -- A run: files in the first realm, each with the turns and the settlings that follow it.
 use Rattle.std.specs.Prelude.{ℕ, zero, suc, List, [], ◌∷◌, ◌++◌, Bool, true, false, ◌&&◌, nat_eq, find, Option, Some, None}
 use Rattle.sr_model.specs.Values.{Text, Name, Path, root, same, member, Passed}
-use Rattle.sr_model.specs.Outcomes.{Outcome, Valued, Thrown, told_of, Completion, Normal, Abrupt, Throw, Return, Break, Continue, Leave}
+use Rattle.sr_model.specs.Outcomes.{Outcome, Valued, Thrown, told_of, Completion, Normal, Abrupt, Throw}
 use Rattle.sr_model.specs.Events.{Goal, Message, Source, Settle, Turn, Event, Cut}
 use Rattle.sr_model.specs.Realm.{Realm}
 use Rattle.sr_model.specs.Scripts.{Language}
@@ -32,11 +32,7 @@ is_of t row = same row.child t.child && nat_eq row.taken t.taken
 -- the line of an uncaught throw
 abbrev pub uncaught : {T R : Type 0} → Language T R → Name → Completion → Slot R → List Write
 uncaught l name (Abrupt (Throw v)) s = Uncaught name (l.report s.realm v) ∷ []
-uncaught l name (Normal v) s = []
-uncaught l name (Abrupt (Return v)) s = []
-uncaught l name (Abrupt (Break label v)) s = []
-uncaught l name (Abrupt (Continue label v)) s = []
-uncaught l name (Leave o) s = []
+uncaught l name o s = []
 
 -- the world before a run
 abbrev pub start : {T R : Type 0} → Language T R → World R
