@@ -14,6 +14,7 @@ use Rattle.sr_worlds.specs.Run.{start}
 use Rattle.sr_worlds.specs.Stacks.{top, after}
 use Rattle.sr_worlds.specs.Laws.{writes_of, IsStart}
 use Rattle.sr_worlds.proofs.StackSteps.{live_begins}
+use Rattle.sr_worlds.proofs.LiveLarger.{start_self, then_writes, follow_writes}
 use Rattle.sr_stmt.specs.Rows.{source}
 use Rattle.sr_state.specs.declared.frame.Activity.{Activity}
 use Rattle.sr_state.specs.declared.frame.Activity.TheVariants as activity
@@ -31,7 +32,6 @@ use Rattle.sr_machine.specs.Stack.{waiting, above, on_top, comes, depths}
 use Rattle.sr_machine.specs.Going.{PaysFirst, Ready, AtRest, Under}
 use Rattle.sr_machine.specs.Running.{given, source_run, source_tapes, Begins, EndsAtRest, WritesFirst}
 use Rattle.sr_machine.proofs.Comes.{not_both}
-use Rattle.sr_machine.proofs.Grows.{start_self, then_grows, follow_grows}
 
 first_slot : (b : Bool) (q : Path) (e : Event) → choose b (with_event e (fresh_slot born root)) (fresh_slot born q) ≡ record { realm = choose b (fresh born root) (fresh born q); tape = choose b (e ∷ []) [] }
 first_slot true q e = refl
@@ -97,15 +97,15 @@ module _ (read : Text → Reading) (bound : ℕ) (z : Tapes) (meaning : ℕ → 
   after_grows c [] ds w x = start_self w.writes
   after_grows c (f ∷ fs) [] w x = start_self w.writes
   after_grows c (f ∷ fs) (d ∷ ds) w x =
-      then_grows w.writes (follow (language read) (live (language read) bound) (ev (language read) (live (language read) bound) d) (c f.calls) w (script_of f (Ended x))) _
-      (follow_grows (language read) bound d (script_of f (Ended x)) (c f.calls) w) (after_grows c fs ds)
+      then_writes w.writes (follow (language read) (live (language read) bound) (ev (language read) (live (language read) bound) d) (c f.calls) w (script_of f (Ended x))) _
+      (follow_writes (language read) bound d (script_of f (Ended x)) (c f.calls) w) (after_grows c fs ds)
 
   comes_grows : (ds : List ℕ) → IsStart v (writes_of (comes read bound z v h ds))
   comes_grows [] = start_self v
   comes_grows (d ∷ ds) =
       (let c = place_of h h.top.calls in
       let s = script_of h.top (given_of h.answer) in
-      then_grows v (follow (language read) (live (language read) bound) (ev (language read) (live (language read) bound) d) c (world_of z v h) s) _ (follow_grows (language read) bound d s c (world_of z v h)) (after_grows (place_of h) h.frames ds))
+      then_writes v (follow (language read) (live (language read) bound) (ev (language read) (live (language read) bound) d) c (world_of z v h) s) _ (follow_writes (language read) bound d s c (world_of z v h)) (after_grows (place_of h) h.frames ds))
 
 pub ends_at_rest : EndsAtRest
 ends_at_rest h rest read bound z meaning v u = ends_by read bound z meaning v h h.answer refl rest u

@@ -283,7 +283,7 @@ module _ (read : Text → Reading) (z : Tapes) (o : Outer) (no_cut : o.cut ≡ N
         (let a = all_steps read z o v under in
         let low = waiting (place_in o x) under ds in
         let calls = (let r = q (Normal None) in r.1) in
-        a.part d (place_in o x k) (world_in z v o x) t s low
+        a.exact (suc d) (place_in o x k) (world_in z v o x) (Part t s) low
         ∙ sym (λ i. live_means (language read) o.bound (top ((let e : suc d - 1 ≡ d = omega arith in e) i) (place_in o x (b.calls i)) (world_in z v o x) (b.script i)
         (Waits ((let e : suc d - 0 ≡ suc d = omega arith in e) i) (place_in o x (calls i)) (λ e. let r = q e in r.2 i) ∷ low))))
 
@@ -308,7 +308,7 @@ module _ (read : Text → Reading) (z : Tapes) (o : Outer) (no_cut : o.cut ≡ N
     task_same t b zero ds le = absurd (omega (arith, le))
     task_same t b (suc d) ds le =
         (let a = all_steps read z o v under in
-        a.becomes d (place_in o x k) (world_in z v o x) t (waiting (place_in o x) under ds)
+        a.exact (suc d) (place_in o x k) (world_in z v o x) (Become t) (waiting (place_in o x) under ds)
         ∙ sym (λ i. above read o.bound (place_in o x) (world_in z v o x) (b.calls i) (b.script i) ((let e : suc d - 1 ≡ d = omega arith in e) i) under ds))
 
     becomes : (t : language.Work) → Becomes under o x k t n new → CameFrom paid x k (Become t)
@@ -418,7 +418,7 @@ module _ (read : Text → Reading) (z : Tapes) (o : Outer) (no_cut : o.cut ≡ N
   operation_same x k y zero ds le = absurd (omega (arith, le))
   operation_same x k y (suc d) ds le =
       (let a = all_steps read z o v under in
-      a.becomes d (place_in o x k) (world_in z v o x) (Operate y) (waiting (place_in o x) under ds) ∙ ap (λ d. was x k (operation y) d ds) (let e : d ≡ suc d - 1 = omega arith in e))
+      a.exact (suc d) (place_in o x k) (world_in z v o x) (Become (Operate y)) (waiting (place_in o x) under ds) ∙ ap (λ d. was x k (operation y) d ds) (let e : d ≡ suc d - 1 = omega arith in e))
 
   known : (paid : Bool) (x : Side) (k : ℕ) (y : language.Operation) → Here o x → further operation stays under o (far paid) x k y n new → CameFrom paid x k (Become (Operate y))
   known paid x k y here g =

@@ -7,12 +7,12 @@ use Rattle.sr_model.specs.Outcomes.{Completion, CallDepth}
 use Rattle.sr_model.specs.Realm.{Inner, Realm}
 use Rattle.sr_model.specs.Tasks.{Run}
 use Rattle.sr_model.specs.Scripts.{Look, Change, Part, Pay, Enter, then_follow, IsPlain}
-use Rattle.sr_model.specs.World.{Write, World, put, may_enter}
+use Rattle.sr_model.specs.World.{Write, World, put, pay, may_enter}
 use Rattle.sr_model.specs.Globals.{Holds, marked}
-use Rattle.sr_worlds.specs.Live.{LiveRan, Stopped, Steps, over, live, entered, paid}
+use Rattle.sr_worlds.specs.Live.{LiveRan, Stopped, Steps, over, live}
 use Rattle.sr_worlds.specs.LiveStacks.{live_owed}
 use Rattle.sr_worlds.specs.Stacks as stacks
-use Rattle.sr_worlds.proofs.StackSteps.{steps, live_pays, live_meets_bound, live_enters, live_too_deep}
+use Rattle.sr_worlds.proofs.StackSteps.{steps}
 use Rattle.sr_state.specs.declared.frame.Frame.{Frame}
 use Rattle.sr_state.specs.Work as language
 use Rattle.sr_state.specs.Held.{Side, Outer, realm_in, with_inner, with_steps, change_in, pay_in, begun_in, room_in, table}
@@ -32,18 +32,19 @@ module _ (read : Text → Reading) (z : Tapes) (o : Outer) (v : List Write) (und
   all_steps = steps (language read) (live (language read) o.bound) (live_owed (language read) o.bound)
 
   module _ (x : Side) (k D : ℕ) (ds : List ℕ) where
+    -- a step of the script, as the worlds have it
+    exact : (s : language.Steps) → from x k s D ds ≡ stacks.stepped (language read) (live (language read) o.bound) (live_owed (language read) o.bound) D (place_in o x k) (world_in z v o x) (waiting (place_in o x) under ds) s
+    exact s = (let a = all_steps in a.exact D (place_in o x k) (world_in z v o x) s (waiting (place_in o x) under ds))
+
     -- a charge that is refused, and one call too many
     pub refused : (c : ℕ) (s : language.Steps) → room_in o.bound x (suc c) ≡ false → from x k (Pay c s) D ds ≡ over (Steps (suc c)) (place_in o x k) (world_in z v o x)
-    refused c s room = (let a = all_steps in a.pay_ends D (place_in o x k) (world_in z v o x) _ _ c s (waiting (place_in o x) under ds) (live_meets_bound Holds o.bound c (place_in o x k) (world_in z v o x) room))
+    refused c s room = exact (Pay c s) ∙ rw room
 
     pub too_deep : (s : language.Steps) → may_enter k ≡ false → from x k (Enter s) D ds ≡ over (Stopped CallDepth) (place_in o x k) (world_in z v o x)
-    too_deep s may = (let a = all_steps in a.enter_ends D (place_in o x k) (world_in z v o x) _ _ s (waiting (place_in o x) under ds) (live_too_deep Holds o.bound (place_in o x k) (world_in z v o x) may))
+    too_deep s may = exact (Enter s) ∙ rw may
 
     pub shut : (s : language.Steps) → may_enter k ≡ true → room_in o.bound x 1 ≡ false → from x k (Enter s) D ds ≡ over (Steps 1) (place_in o x k) (world_in z v o x)
-    shut s may room =
-        (let a = all_steps in
-        let w : World Holds = world_in z v o x in
-        a.enter_ends D (place_in o x k) w _ _ s (waiting (place_in o x) under ds) (ap (λ b. entered o.bound b (place_in o x k) w) may ∙ ap (λ b. paid b 1 (place_in o x k) w) room))
+    shut s may room = exact (Enter s) ∙ rw may (rw room)
 
     module _ (h : Here o x) where
       pub looks : (f : Realm Holds → language.Steps) → from x k (Look f) D ds ≡ from x k (f (realm_in x)) D ds
@@ -54,17 +55,15 @@ module _ (read : Text → Reading) (z : Tapes) (o : Outer) (v : List Write) (und
           ap (λ (r : Realm Holds). above read o.bound (place_in o x) (put (path_at (paths (table o x)) o.here) (f r.inner) (world_in z v o x)) k s D under ds) (realm_here z o x h)
           ∙ sym (λ i. above read o.bound (places_along o x (with_inner f) refl i) (change_is z o x h v f i) k s D under ds)
 
+      -- as many steps more are used
+      paid : (c j : ℕ) (s : language.Steps) → above read o.bound (place_in o x) (pay (path_at (paths (table o x)) o.here) c (world_in z v o x)) j s D under ds ≡ from (pay_in c x) j s D ds
+      paid c j s = sym (λ i. above read o.bound (places_along o x (with_steps c) refl i) (pay_is z o x h v c i) j s D under ds)
+
       pub pays : (c : ℕ) (s : language.Steps) → room_in o.bound x (suc c) ≡ true → from x k (Pay c s) D ds ≡ from (pay_in (suc c) x) k s D ds
-      pays c s room =
-          (let a = all_steps in
-          a.pays D (place_in o x k) (world_in z v o x) _ c s (waiting (place_in o x) under ds) (live_pays Holds o.bound c (place_in o x k) (world_in z v o x) room)
-          ∙ sym (λ i. above read o.bound (places_along o x (with_steps (suc c)) refl i) (pay_is z o x h v (suc c) i) k s D under ds))
+      pays c s room = exact (Pay c s) ∙ rw room (paid (suc c) k s)
 
       pub enters : (s : language.Steps) → may_enter k ≡ true → room_in o.bound x 1 ≡ true → from x k (Enter s) D ds ≡ from (pay_in 1 x) (suc k) s D ds
-      enters s may room =
-          (let a = all_steps in
-          a.enters D (place_in o x k) (world_in z v o x) _ s (waiting (place_in o x) under ds) (live_enters Holds o.bound (place_in o x k) (world_in z v o x) may room)
-          ∙ sym (λ i. above read o.bound (places_along o x (with_steps 1) refl i) (pay_is z o x h v 1 i) (suc k) s D under ds))
+      enters s may room = exact (Enter s) ∙ rw may (rw room (paid 1 (suc k) s))
 
   -- a literal or a name that is a part is evaluated in its place
   operand_follows : (y : Operand) (s : Completion → language.Steps) (x : Side) (k D : ℕ) (ds : List ℕ) → Here o x → from x k (then_follow (operand_script y) s) D ds ≡ from x k (s (end_of y (realm_in x))) D ds

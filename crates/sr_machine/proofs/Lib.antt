@@ -6,5 +6,4 @@ pub mod Kept
 pub mod Dispatch
 pub mod Outside
 pub mod Advances
-pub mod Grows
 pub mod Begins

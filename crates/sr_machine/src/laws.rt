@@ -1,4 +1,4 @@
-//! That each row pays first, how a run begins, what is left where nothing is under way, and what was written. Each function here is a
+//! Which rows pay first, how a run begins, what is left where nothing is under way, and what was written. Each function here is a
 //! law: it does nothing, and its contract is proved.
 
 ghost use Rattle.std.specs.Prelude.{ℕ, List};
@@ -12,7 +12,9 @@ ghost use Rattle.sr_machine.specs.Language.{tree_row};
 ghost use Rattle.sr_machine.specs.Going.{PaysFirst};
 ghost use Rattle.sr_machine.specs.Running.{Begins, EndsAtRest, WritesFirst};
 
-/// Each row pays before it makes a part, prints a line, ends or becomes another task.
+/// The row of a tree, of a built-in function and of a source pays before it makes a part, prints a line, ends or becomes
+/// another task. Nothing is said of the turns of a loop. A row whose first part is a literal or a name counts as one that
+/// pays, since the step that begins with it pays its charge.
 pub fn each_row_pays_first()
     ensures tree { (s e : ℕ) (t : Tree) → PaysFirst (tree_row s e t) }
     ensures built_in { (b : BuiltIn) (this : Value) (args : List Value) → PaysFirst (built_in_row b this args) }
