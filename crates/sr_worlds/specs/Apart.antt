@@ -1,5 +1,5 @@
 -- Two other ways to run, for which the law of isolation is false.
-use Rattle.std.specs.Prelude.{ℕ, zero, suc, List, [], ◌∷◌, Bool, true, false, nat_le, find, Option, Some, None}
+use Rattle.std.specs.Prelude.{ℕ, zero, suc, List, [], ◌∷◌, true, nat_le, find, Option, Some, None}
 use Rattle.sr_model.specs.Values.{root, child, Undefined, Passed, Bare}
 use Rattle.sr_model.specs.Outcomes.{Outcome, Valued, told_of, Normal, Leave, CallDepth}
 use Rattle.sr_model.specs.Events.{Script, Message, Source, Evaluate, Import, Call, Settle, Turn}
@@ -7,30 +7,21 @@ use Rattle.sr_model.specs.Ports.{AskEvaluate, AskImport}
 use Rattle.sr_model.specs.Realm.{FirstTurn}
 use Rattle.sr_model.specs.Scripts as scripts
 use Rattle.sr_model.specs.Scripts.{Give, Change, Pay, Enter, Ticket, NewRealm, Tell, Ask, Language}
-use Rattle.sr_model.specs.World.{Slot, Pending, World, Place, put, cross}
-use Rattle.sr_worlds.specs.Evaluation.{Done, Over, then_do, Outside, follow, ev}
-use Rattle.sr_worlds.specs.Live.{Stopped, Broken, Short, LiveReach, LiveRan, LiveMore, over, live_pay, take, live}
+use Rattle.sr_model.specs.World.{Pending, World, Place, put, cross}
+use Rattle.sr_worlds.specs.Evaluation.{Done, then_do, provided, Outside, follow, ev}
+use Rattle.sr_worlds.specs.Live.{Stopped, Broken, Short, LiveRan, LiveMore, end_at, over, live_pay, take, live}
 use Rattle.sr_worlds.specs.Run.{File, is_of, settled, start, ran_all, tape_of}
-use Rattle.sr_worlds.specs.Solo.{Halted, SoloReach, solo}
+use Rattle.sr_worlds.specs.Solo.{Halted, solo}
 use Rattle.sr_worlds.specs.Replay.{Verdict, played, replay}
 
 module _ {T R : Type 0} (l : Language T R) where
-  -- 1. entering a function counts the call, up to a limit, and pays nothing
-  abbrev pub live_apart : Bool → Place → World R → LiveReach R (Unit {0})
-  live_apart false c w = over (Stopped CallDepth) c w
-  live_apart true c w = Done w tt
-
-  -- and so in a replay, of its own calls
-  abbrev pub solo_apart : Bool → Slot R → SoloReach R (Unit {0})
-  solo_apart false s = Over s Halted
-  solo_apart true s = Done s tt
-
-  -- else they are the live and the solo outside
+  -- 1. entering a function counts the call, up to a limit, and pays nothing; and so in a replay, of its own calls. Else they are the
+  -- live and the solo outside
   abbrev pub apart_live : ℕ → ℕ → Outside T R
-  apart_live limit bound = record (live l bound) { enter = λ c w. live_apart (nat_le (suc c.calls) limit) c w }
+  apart_live limit bound = record (live l bound) { enter = λ c w. provided (nat_le (suc c.calls) limit) w (end_at (Stopped CallDepth) c) (Done w tt) }
 
   abbrev pub apart_solo : ℕ → ℕ → Outside T R
-  apart_solo limit bound = record (solo l bound) { enter = λ c s. solo_apart (nat_le (suc c) limit) s }
+  apart_solo limit bound = record (solo l bound) { enter = λ c s. provided (nat_le (suc c) limit) s Halted (Done s tt) }
 
   -- 2. the parent takes a settling at once
   abbrev pub at_once : LiveMore T R → Place → World R → Outcome Passed → Option Pending → LiveRan R
