@@ -12,7 +12,7 @@ use Rattle.sr_state.specs.Step.{plain}
 use Rattle.sr_state.specs.Trees.{computed, text_in, throw_error}
 use Rattle.sr_call.specs.Parts.{line_of}
 use Rattle.sr_call.specs.Rows.{print_joined, print_rest}
-use Rattle.sr_call.specs.Stages.{texts_in, rest_at, after, turn, turn_at}
+use Rattle.sr_call.specs.Stages.{texts_in, rest_at, after_turn, turn, turn_at}
 
 drop_there : (vs : List Value) (n : ℕ) (v : Value) → Some v ≡ slice_get vs n → drop n (plain vs) ≡ value_of v ∷ drop (suc n) (plain vs)
 drop_there [] zero v e = cc
@@ -27,7 +27,7 @@ drop_past (w ∷ vs) zero e = cc
 drop_past (w ∷ vs) (suc n) e = drop_past vs n e
 
 -- the turn of an argument that is there, and of one that is not
-pub turn_there : (vs : List Value) (n : ℕ) (v : Value) → Some v ≡ slice_get vs n → turn_at n (plain vs) ≡ computed (to_text (value_of v)) (after n (plain vs))
+pub turn_there : (vs : List Value) (n : ℕ) (v : Value) → Some v ≡ slice_get vs n → turn_at n (plain vs) ≡ computed (to_text (value_of v)) (after_turn n (plain vs))
 turn_there vs n v e = ap (λ x. turn x (texts_in (take n (plain vs)))) (drop_there vs n v e)
 
 pub turn_past : (vs : List Value) (n : ℕ) → None ≡ slice_get vs n → turn_at n (plain vs) ≡ throw_error
@@ -57,5 +57,5 @@ texts_put (v ∷ vs) zero s p = refl
 texts_put (v ∷ vs) (suc n) s p = ap (λ x. text_in (value_of v) ∷ x) (texts_put vs n s (omega arith))
 
 -- an argument gives way to its text
-pub rest_put : (vs : List Value) (n : ℕ) (s : model.Text) → n < length vs → rest_at (suc n) (plain (slice_set vs n (Str s))) ≡ after n (plain vs) s
+pub rest_put : (vs : List Value) (n : ℕ) (s : model.Text) → n < length vs → rest_at (suc n) (plain (slice_set vs n (Str s))) ≡ after_turn n (plain vs) s
 rest_put vs n s p = ap₂ print_rest (drop_put vs n (Str s)) (texts_put vs n s p)

@@ -1,5 +1,5 @@
 -- What the parts of a step leave.
-use Rattle.std.specs.Prelude.{◌≡◌, ◌⊎◌, ◌<◌, ◌-◌, ℕ, suc, true, false, nat_le, List, length, Option, None, Some}
+use Rattle.std.specs.Prelude.{◌≡◌, ◌⊎◌, ◌<◌, ℕ, suc, true, false, nat_le, List, length, Option, None, Some, Ok, Err}
 use Rattle.sr_value.specs.declared.value.Value.{Value}
 use Rattle.sr_model.specs.Values as model
 use Rattle.sr_model.specs.Outcomes.{Stop}
@@ -11,22 +11,13 @@ use Rattle.sr_state.specs.declared.ends.Next.{Next}
 use Rattle.sr_state.specs.declared.ends.Next.TheVariants as next
 use Rattle.sr_state.specs.declared.ends.StopName.TheVariants as stop
 use Rattle.sr_state.specs.Ends.{HaltsBy}
-use Rattle.sr_state.specs.Held.{Held, staged, keeping, listing}
-use Rattle.sr_state.specs.Parts.{EndsWith, no_error, emptied}
+use Rattle.sr_state.specs.Held.{Held, staged, listing}
+use Rattle.sr_state.specs.Parts.{EndsWith, Makes, no_error, emptied}
 use Rattle.sr_state.specs.Step.{plain}
 use Rattle.sr_state.specs.Work.{Steps}
-use Rattle.sr_state.specs.Trees.{text_limit, text_cost, throw_error}
-use Rattle.sr_call.specs.declared.places.Place.{Place}
-use Rattle.sr_call.specs.declared.places.Place.TheVariants as place
+use Rattle.sr_state.specs.Trees.{text_limit, throw_error}
 use Rattle.sr_call.specs.Rows.{joined, print_joined}
 use Rattle.sr_call.specs.Stages.{texts_in, rest_at, turn_at}
-
--- the stage of a call
-abbrev pub IsPlace : ℕ → Place → Type 0
-IsPlace n place.Entry = n ≡ 0
-IsPlace n place.Printed = n ≡ 1
-IsPlace n place.Made = n ≡ 2
-IsPlace n (place.Argument k) = n ≡ suc (suc (suc k))
 
 -- the line of the texts that some values are
 abbrev pub line_of : List Value → model.Text
@@ -37,32 +28,23 @@ abbrev pub IsString : model.Text → Option model.Text → Type 0
 IsString text None = text_limit < length text
 IsString text (Some s) = s ≡ text
 
--- a text costs a step or more
-abbrev pub Costs : model.Text → Type 0
-Costs text = text_cost text ≡ suc (text_cost text - 1)
-
 -- a line is printed
 abbrev pub PrintsLine : model.Text → Held → Next → Held → Type 0
 PrintsLine text old n new = (n ≡ next.Print text) × (new ≡ staged 1 (emptied old))
 
--- what comes of a line: it is too long for a string, it costs nothing and is printed, or it is kept to be paid
-abbrev pub Makes : model.Text → Held → Next → Held → Type 0
-Makes text old n new =
+-- what comes of a line: it is too long for a string, or it is made and printed
+abbrev pub PrintsAll : model.Text → Held → Next → Held → Type 0
+PrintsAll text old n new =
     ((nat_le (length text) text_limit ≡ false) × (n ≡ next.Halt stop.StringLength) × (new ≡ old))
     ⊎ ((nat_le (length text) text_limit ≡ true)
-    × (((text_cost text ≡ 0) × PrintsLine text old n new)
-    ⊎ ((v : Value) × Costs text × (value_of v ≡ model.Simple (model.Str text)) × (n ≡ next.Going) × (new ≡ keeping (Some v) (staged 2 old)))))
-
--- what comes of a line that was kept and paid. One that costs nothing is never kept
-abbrev pub PrintsKept : model.Text → Held → Next → Held → Type 0
-PrintsKept text old n new = ((text_cost text ≡ 0) × EndsWith no_error old n new) ⊎ (Costs text × PrintsLine text old n new)
+    × (Makes 2 text old (Err n) new ⊎ ((mid : Held) × Makes 2 text old (Ok text) mid × PrintsLine text mid n new)))
 
 -- what comes next, from the argument of this number on: it waits for its turn, or none is left, and the line is made
 abbrev pub GoesOn : ℕ → Held → Next → Held → Type 0
 GoesOn at old n new =
     (let f = old.top in
     ((rest_at at (plain f.list) ≡ Pay 0 (turn_at at (plain f.list))) × (n ≡ next.Going) × (new ≡ staged (suc (suc (suc at))) old))
-    ⊎ ((text : model.Text) × (rest_at at (plain f.list) ≡ print_joined text) × Makes text old n new))
+    ⊎ ((text : model.Text) × (rest_at at (plain f.list) ≡ print_joined text) × PrintsAll text old n new))
 
 -- the argument of this number has given way to its text, after which this script is left
 abbrev pub PutsText : ℕ → Steps → Held → Held → Type 0

@@ -7,7 +7,7 @@ use Rattle.sr_conv.specs.Conversions.{to_text}
 use Rattle.sr_state.specs.declared.frame.BuiltIn.{BuiltIn}
 use Rattle.sr_state.specs.Work.{Steps}
 use Rattle.sr_state.specs.Step.{At}
-use Rattle.sr_state.specs.Trees.{value_in, text_in, give_value, throw_error, computed, text_cost}
+use Rattle.sr_state.specs.Trees.{value_in, text_in, give_value, throw_error, computed, kept_at}
 use Rattle.sr_call.specs.Rows.{print_line, print_rest, built_in_row}
 
 -- the texts that values are
@@ -27,18 +27,17 @@ abbrev pub turn_at : ℕ → List Value → Steps
 turn_at n vs = turn (drop n vs) (texts_in (take n vs))
 
 -- what is left after the argument of this number, by its text
-abbrev pub after : ℕ → List Value → Text → Steps
-after n vs s = print_rest (drop (suc n) vs) (texts_in (take n vs) ++ s ∷ [])
+abbrev pub after_turn : ℕ → List Value → Text → Steps
+after_turn n vs s = print_rest (drop (suc n) vs) (texts_in (take n vs) ++ s ∷ [])
 
--- a line that is kept is paid, with this cost, and printed. One that costs nothing is never kept
-abbrev pub kept_line : Text → ℕ → Steps
-kept_line text zero = throw_error
-kept_line text (suc c) = Pay c (print_line text)
+-- a line that was kept is printed
+abbrev pub print_value : Value → Steps
+print_value v = print_line (text_in v)
 
 -- the this value is the value that is kept at first, and the arguments are the list. At stage 1 the line was printed, at stage 2 it is
 -- kept and is to be paid, and at stage n + 3 the argument of the number n is to pay. No function but `print` comes to these
 abbrev pub built_in_at : BuiltIn → At
 built_in_at b source zero kept g = built_in_row b (value_in kept.value) kept.list
 built_in_at b source (suc zero) kept g = give_value (Simple Undefined)
-built_in_at b source (suc (suc zero)) kept g = (let text = text_in (value_in kept.value) in kept_line text (text_cost text))
+built_in_at b source (suc (suc zero)) kept g = kept_at kept.value print_value
 built_in_at b source (suc (suc (suc n))) kept g = Pay 0 (turn_at n kept.list)

@@ -5,8 +5,6 @@
 mod calls;
 /// The line that `print` writes.
 mod line;
-/// How far calls are.
-mod places;
 /// `print`.
 mod printing;
 

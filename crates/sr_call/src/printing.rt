@@ -1,16 +1,15 @@
 ghost use Rattle.std.specs.Prelude.{◌≡◌, ◌<◌, length, IfOk};
 ghost use Rattle.sr_conv.specs.Answers.{text_computed};
-ghost use Rattle.sr_conv.specs.Plain.{value_of};
+ghost use Rattle.sr_state.specs.Ends.{Comes};
 ghost use Rattle.sr_state.specs.Step.{plain};
-ghost use Rattle.sr_state.specs.Trees.{computed, text_in};
-ghost use Rattle.sr_call.specs.Parts.{line_of, GoesOn, IsWithin, Makes, PrintsLine, PrintsKept, PutsText, Turns};
-ghost use Rattle.sr_call.specs.Stages.{turn_at, after};
+ghost use Rattle.sr_state.specs.Trees.{computed};
+ghost use Rattle.sr_call.specs.Parts.{line_of, GoesOn, IsWithin, PrintsAll, PrintsLine, PutsText, Turns};
+ghost use Rattle.sr_call.specs.Stages.{turn_at, after_turn};
 
 use crate::line::line;
-use crate::places::next;
 use sqlite_items::Items;
 use sr_conv::{Computed, to_text};
-use sr_state::{Next, State, StopName};
+use sr_state::{Next, Over, State, StopName, after};
 use sr_text::Str;
 use sr_value::Value;
 use std::alloc::{AllocError, Global};
@@ -24,11 +23,8 @@ const MADE: u32 = 2;
 /// The stage of the first argument.
 const ARGUMENTS: u32 = 3;
 
-/// A string of fewer code units costs nothing.
-const FREE_UNITS: usize = 256;
-
 /// Prints a line, and waits for it.
-fn print_line(state: &mut State, text: Str) -> Next
+pub fn print_line(state: &mut State, text: Str) -> Next
     ensures { PrintsLine text state.old result state.new }
 {
     state.take_answer();
@@ -36,55 +32,32 @@ fn print_line(state: &mut State, text: Str) -> Next
     Next::Print(text)
 }
 
-/// Prints the line that was kept and paid. One that costs nothing is never kept.
-pub fn print_kept(state: &mut State, line: Value) -> Next
-    ensures { PrintsKept (text_in (value_of line)) state.old result state.new }
-{
-    match line {
-        Value::Str(text) => {
-            if text.units().len() < FREE_UNITS {
-                state.throw()
-            } else {
-                print_line(state, text)
-            }
-        }
-        _ => state.throw(),
-    }
-}
-
-/// Makes the line of the texts in the list: it is printed where it costs nothing, and else kept until it is paid.
-fn make(state: &mut State) -> Result<Next, AllocError>
-    ensures { IfOk result (λ next. Makes (line_of state.old.top.list) state.old next state.new) }
+/// Prints the line of the texts in the list, once it is paid.
+fn print_all(state: &mut State) -> Result<Next, Over>
+    ensures { Comes result (λ next. PrintsAll (line_of state.old.top.list) state.old next state.new) }
 {
     match line(state.alloc(), state.top().list.as_slice())? {
         None => Ok(Next::Halt(StopName::StringLength)),
         Some(text) => {
-            if text.units().len() < FREE_UNITS {
-                Ok(print_line(state, text))
-            } else {
-                state.set_stage(MADE);
-                state.keep(Value::Str(text));
-                Ok(Next::Going)
-            }
+            let text = state.made(text, MADE)?;
+            Ok(print_line(state, text))
         }
     }
 }
 
-/// Goes on from the argument of this number: it waits for its turn, and where it is not there the line is made.
+/// Goes on from the argument of this number: it waits for its turn, and where it is not there the line is printed.
 #[tactic(auto, using(crate::proofs::Arguments::rest_there, crate::proofs::Arguments::rest_past))]
-pub fn go_on(state: &mut State, number: u32) -> Result<Next, AllocError>
-    ensures { IfOk result (λ next. GoesOn number state.old next state.new) }
+pub fn go_on(state: &mut State, number: u32) -> Result<Next, Over>
+    ensures { Comes result (λ next. GoesOn number state.old next state.new) }
 {
     if (number as usize) < state.top().list.len() {
-        match number.checked_add(ARGUMENTS) {
-            None => Err(AllocError),
-            Some(stage) => {
-                state.set_stage(stage);
-                Ok(Next::Going)
-            }
-        }
+        let Some(stage) = number.checked_add(ARGUMENTS) else {
+            return Err(Over::Memory);
+        };
+        state.set_stage(stage);
+        Ok(Next::Going)
     } else {
-        make(state)
+        print_all(state)
     }
 }
 
@@ -95,7 +68,7 @@ fn text_at(
     arguments: &Items<Value>,
     number: u32,
 ) -> Result<Computed<Str>, AllocError>
-    ensures text { IfOk result (λ t. turn_at number (plain arguments.now) ≡ computed (text_computed t) (after number (plain arguments.now))) }
+    ensures text { IfOk result (λ t. turn_at number (plain arguments.now) ≡ computed (text_computed t) (after_turn number (plain arguments.now))) }
     ensures within { IfOk result (λ t. IsWithin number arguments.now t) }
 {
     match arguments.get(number as usize) {
@@ -108,19 +81,19 @@ fn text_at(
 #[tactic(auto, using(crate::proofs::Arguments::rest_put))]
 fn put_text(state: &mut State, number: u32, text: Str)
     requires { number < length state.old.top.list }
-    ensures { PutsText number (after number (plain state.old.top.list) text) state.old state.new }
+    ensures { PutsText number (after_turn number (plain state.old.top.list) text) state.old state.new }
 {
     state.set_in_list(number as usize, Value::Str(text));
 }
 
 /// The turn of the argument of this number, once its step is paid: its text takes its place.
-pub fn argument(state: &mut State, number: u32) -> Result<Next, AllocError>
-    ensures { IfOk result (λ next. Turns number state.old next state.new) }
+pub fn argument(state: &mut State, number: u32) -> Result<Next, Over>
+    ensures { Comes result (λ next. Turns number state.old next state.new) }
 {
     match text_at(state.alloc(), &state.top().list, number)? {
         Computed::Is(text) => {
             put_text(state, number, text);
-            go_on(state, next(number)?)
+            go_on(state, after(number)?)
         }
         Computed::Stops(stop) => Ok(Next::Halt(StopName::Number(stop))),
         Computed::Fails => Ok(state.throw()),

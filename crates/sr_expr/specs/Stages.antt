@@ -17,7 +17,7 @@ use Rattle.sr_model.specs.Globals.{either}
 use Rattle.sr_conv.specs.Operators.{operate_one, step_number}
 use Rattle.sr_state.specs.Work.{Steps}
 use Rattle.sr_state.specs.Step.{Given, At}
-use Rattle.sr_state.specs.Trees.{value_in, give_value, throw_error, computed, operated, begin, valued, valued_at, paid_value}
+use Rattle.sr_state.specs.Trees.{value_in, give_value, throw_error, computed, operated, begin, valued, valued_at, kept_at}
 use Rattle.sr_expr.specs.Rows.{expression_of, name_in, is_built, is_prefix_built, between, stored, put, put_between, not_built, literal, name, in_order, sequence, chosen, condition, undecided, logical, binary, unary, update, plain_assignment, compound_assignment, put_undecided, logical_assignment, arguments, call}
 
 module _ (at : ℕ) where
@@ -55,7 +55,7 @@ module _ (at : ℕ) where
   binary_at op a b s zero kept g = binary s 0 at op a b
   binary_at op a b s (suc zero) kept g = valued_at s 0 g a (λ x. valued s 0 b (between op x))
   binary_at op a b s (suc (suc zero)) kept g = valued_at s 0 g b (between op (value_in kept.value))
-  binary_at op a b s (suc (suc (suc n))) kept g = paid_value (value_in kept.value) give_value
+  binary_at op a b s (suc (suc (suc n))) kept g = kept_at kept.value give_value
 
   abbrev pub operator_at : BinaryOp → Tree → Tree → At
   operator_at op a b = either (is_built op) (binary_at op a b) not_built_at
@@ -64,7 +64,7 @@ module _ (at : ℕ) where
   abbrev pub unary_at : UnaryOp → Tree → At
   unary_at op a s zero kept g = unary s 0 at op a
   unary_at op a s (suc zero) kept g = valued_at s 0 g a (λ x. operated (operate_one op x) give_value)
-  unary_at op a s (suc (suc n)) kept g = paid_value (value_in kept.value) give_value
+  unary_at op a s (suc (suc n)) kept g = kept_at kept.value give_value
 
   abbrev pub prefix_at : UnaryOp → Tree → At
   prefix_at op a = either (is_prefix_built op) (unary_at op a) not_built_at
@@ -84,7 +84,7 @@ module _ (at : ℕ) where
   compound_at op t b s zero kept g = compound_assignment s 0 at op t b
   compound_at op t b s (suc zero) kept g = valued_at s 0 g t (λ x. valued s 0 b (put_between op t x))
   compound_at op t b s (suc (suc zero)) kept g = valued_at s 0 g b (put_between op t (value_in kept.value))
-  compound_at op t b s (suc (suc (suc n))) kept g = paid_value (value_in kept.value) (put t)
+  compound_at op t b s (suc (suc (suc n))) kept g = kept_at kept.value (put t)
 
   -- at the old value, and at the right side
   abbrev pub logical_assignment_at : LogicalOp → Tree → Tree → At

@@ -1,17 +1,16 @@
-ghost use Rattle.std.specs.Prelude.{◌≡◌, IfOk, OnOk};
-ghost use Rattle.sr_model.specs.Globals.{assigned};
+ghost use Rattle.std.specs.Prelude.{◌≡◌, IfOk};
 ghost use Rattle.sr_conv.specs.Plain.{value_of};
-ghost use Rattle.sr_state.specs.Held.{with_side, change_in};
+ghost use Rattle.sr_state.specs.Ends.{Comes};
 ghost use Rattle.sr_state.specs.Step.{StepsBy};
+ghost use Rattle.sr_expr.specs.Parts.{Puts};
 ghost use Rattle.sr_expr.specs.Rows.{name_in};
 ghost use Rattle.sr_expr.specs.Stages.{plain_at, compound_at, logical_assignment_at, assignment_at};
 
 use crate::choice::decides;
-use crate::places::{Operand, operand_of};
 use sr_ast::{AssignOp, BinaryOp, LogicalOp, Node, Tree};
 use sr_conv::operate;
 use sr_shared::Shared;
-use sr_state::{Next, State, Valued, value_or_undefined};
+use sr_state::{Next, Over, State, before};
 use sr_text::Str;
 use sr_value::Value;
 use std::alloc::{AllocError, Global};
@@ -25,19 +24,30 @@ fn name_of(alloc: Global, target: &Tree) -> Result<Str, AllocError>
 {
     match &target.node {
         Node::Name(name) => Ok(name.clone()?),
-        _ => match Str::of_units(alloc, &[]) {
-            Ok(empty) => Ok(empty),
-            Err(_) => Err(AllocError),
-        },
+        _ => Str::of_units(alloc, &[]).map_err(|_| AllocError),
     }
 }
 
-/// Gives the name that a target is a value (ECMA-262 6.2.5.6).
-pub fn put(state: &mut State, target: &Shared<Tree>, value: &Value) -> Result<(), AllocError>
-    ensures { OnOk result (state.new ≡ with_side state.old (change_in (assigned (name_in target.now) (value_of value.now)) state.old.side)) }
+/// Gives the name that a target is a value, and ends with a value (ECMA-262 6.2.5.6).
+pub fn put_and_give(
+    state: &mut State,
+    target: &Shared<Tree>,
+    value: Value,
+    given: Value,
+) -> Result<Next, Over>
+    ensures { Comes result (λ next. Puts target.now value given state.old next state.new) }
 {
     let name = name_of(state.alloc(), target.get())?;
-    state.assign(&name, value.clone()?)
+    state.assign(&name, value)?;
+    Ok(state.give(given))
+}
+
+/// Gives the name that a target is a value, with which it ends.
+fn put(state: &mut State, target: &Shared<Tree>, value: Value) -> Result<Next, Over>
+    ensures { Comes result (λ next. Puts target.now value value state.old next state.new) }
+{
+    let given = value.clone()?;
+    put_and_give(state, target, value, given)
 }
 
 /// `=` (ECMA-262 13.15.2). The target pays its own charge, in a step of its own.
@@ -46,31 +56,24 @@ fn plain(
     at: usize,
     target: &Shared<Tree>,
     right: &Shared<Tree>,
-) -> Result<Next, AllocError>
-    ensures { IfOk result (λ next. StepsBy (plain_at at target.now right.now) state.old next state.new) }
+) -> Result<Next, Over>
+    ensures { Comes result (λ next. StepsBy (plain_at at target.now right.now) state.old next state.new) }
 {
     match state.stage() {
-        0 => match state.begin(at) {
-            Some(stop) => Ok(stop),
-            None => {
-                state.set_stage(1);
-                Ok(Next::Going)
-            }
-        },
-        1 => match state.begin(target.get().from) {
-            Some(stop) => Ok(stop),
-            None => {
-                state.set_stage(2);
-                state.begin_part(right)
-            }
-        },
-        _ => match state.resume_value(right)? {
-            Valued::Left(next) => Ok(next),
-            Valued::Value(value) => {
-                put(state, target, &value)?;
-                Ok(state.give(value))
-            }
-        },
+        0 => {
+            state.begin(at)?;
+            state.set_stage(1);
+            Ok(Next::Going)
+        }
+        1 => {
+            state.begin(target.get().from)?;
+            state.set_stage(2);
+            state.begin_part(right)
+        }
+        _ => {
+            let value = state.resume_value(right)?;
+            put(state, target, value)
+        }
     }
 }
 
@@ -81,40 +84,28 @@ fn compound(
     op: BinaryOp,
     target: &Shared<Tree>,
     right: &Shared<Tree>,
-) -> Result<Next, AllocError>
-    ensures { IfOk result (λ next. StepsBy (compound_at at op target.now right.now) state.old next state.new) }
+) -> Result<Next, Over>
+    ensures { Comes result (λ next. StepsBy (compound_at at op target.now right.now) state.old next state.new) }
 {
-    match operand_of(state.stage()) {
-        Operand::Start => state.begin_with(at, target),
-        Operand::First => match state.resume_value(target)? {
-            Valued::Left(next) => Ok(next),
-            Valued::Value(x) => {
-                state.keep(x);
-                state.set_stage(2);
-                state.begin_part(right)
-            }
-        },
-        Operand::Second => match state.resume_value(right)? {
-            Valued::Left(next) => Ok(next),
-            Valued::Value(y) => {
-                let x = value_or_undefined(state.take_kept());
-                let came = operate(state.alloc(), op, &x, &y)?;
-                match state.operated(came, PAID)? {
-                    Valued::Left(next) => Ok(next),
-                    Valued::Value(value) => {
-                        put(state, target, &value)?;
-                        Ok(state.give(value))
-                    }
-                }
-            }
-        },
-        Operand::Paid(_) => match state.pay_kept() {
-            Valued::Left(next) => Ok(next),
-            Valued::Value(value) => {
-                put(state, target, &value)?;
-                Ok(state.give(value))
-            }
-        },
+    match before(state.stage()) {
+        None => state.begin_with(at, target),
+        Some(0) => {
+            let x = state.resume_value(target)?;
+            state.keep(x);
+            state.set_stage(2);
+            state.begin_part(right)
+        }
+        Some(1) => {
+            let y = state.resume_value(right)?;
+            let x = state.take_value();
+            let came = operate(state.alloc(), op, &x, &y)?;
+            let value = state.operated(came, PAID)?;
+            put(state, target, value)
+        }
+        Some(_) => {
+            let value = state.pay_kept()?;
+            put(state, target, value)
+        }
     }
 }
 
@@ -125,29 +116,23 @@ fn logical_assignment(
     op: LogicalOp,
     target: &Shared<Tree>,
     right: &Shared<Tree>,
-) -> Result<Next, AllocError>
-    ensures { IfOk result (λ next. StepsBy (logical_assignment_at at op target.now right.now) state.old next state.new) }
+) -> Result<Next, Over>
+    ensures { Comes result (λ next. StepsBy (logical_assignment_at at op target.now right.now) state.old next state.new) }
 {
     match state.stage() {
         0 => state.begin_with(at, target),
-        1 => match state.resume_value(target)? {
-            Valued::Left(next) => Ok(next),
-            Valued::Value(x) => {
-                if decides(op, &x) {
-                    Ok(state.give(x))
-                } else {
-                    state.set_stage(2);
-                    state.begin_part(right)
-                }
+        1 => {
+            let x = state.resume_value(target)?;
+            if decides(op, &x) {
+                return Ok(state.give(x));
             }
-        },
-        _ => match state.resume_value(right)? {
-            Valued::Left(next) => Ok(next),
-            Valued::Value(value) => {
-                put(state, target, &value)?;
-                Ok(state.give(value))
-            }
-        },
+            state.set_stage(2);
+            state.begin_part(right)
+        }
+        _ => {
+            let value = state.resume_value(right)?;
+            put(state, target, value)
+        }
     }
 }
 
@@ -158,8 +143,8 @@ pub fn assignment(
     op: AssignOp,
     target: &Shared<Tree>,
     right: &Shared<Tree>,
-) -> Result<Next, AllocError>
-    ensures { IfOk result (λ next. StepsBy (assignment_at at op target.now right.now) state.old next state.new) }
+) -> Result<Next, Over>
+    ensures { Comes result (λ next. StepsBy (assignment_at at op target.now right.now) state.old next state.new) }
 {
     match op {
         AssignOp::Plain => plain(state, at, target, right),

@@ -1,5 +1,6 @@
-ghost use Rattle.std.specs.Prelude.{◌≡◌, IfOk};
+ghost use Rattle.std.specs.Prelude.{◌≡◌};
 ghost use Rattle.sr_conv.specs.Plain.{value_of};
+ghost use Rattle.sr_state.specs.Ends.{Comes};
 ghost use Rattle.sr_state.specs.Step.{StepsBy};
 ghost use Rattle.sr_expr.specs.Rows as rows;
 ghost use Rattle.sr_expr.specs.Stages.{condition_at, logical_at};
@@ -7,9 +8,8 @@ ghost use Rattle.sr_expr.specs.Stages.{condition_at, logical_at};
 use sr_ast::{LogicalOp, Tree};
 use sr_conv::to_boolean;
 use sr_shared::Shared;
-use sr_state::{Next, State, Valued};
+use sr_state::{Next, Over, State};
 use sr_value::Value;
-use std::alloc::AllocError;
 
 /// Whether the left operand decides (ECMA-262 13.13.1).
 pub fn decides(op: LogicalOp, value: &Value) -> bool
@@ -32,21 +32,19 @@ pub fn condition(
     test: &Shared<Tree>,
     yes: &Shared<Tree>,
     no: &Shared<Tree>,
-) -> Result<Next, AllocError>
-    ensures { IfOk result (λ next. StepsBy (condition_at at test.now yes.now no.now) state.old next state.new) }
+) -> Result<Next, Over>
+    ensures { Comes result (λ next. StepsBy (condition_at at test.now yes.now no.now) state.old next state.new) }
 {
     match state.stage() {
         0 => state.begin_with(at, test),
-        _ => match state.resume_value(test)? {
-            Valued::Left(next) => Ok(next),
-            Valued::Value(x) => {
-                if to_boolean(&x) {
-                    state.become_part(yes)
-                } else {
-                    state.become_part(no)
-                }
+        _ => {
+            let x = state.resume_value(test)?;
+            if to_boolean(&x) {
+                state.become_part(yes)
+            } else {
+                state.become_part(no)
             }
-        },
+        }
     }
 }
 
@@ -57,20 +55,18 @@ pub fn logical(
     op: LogicalOp,
     left: &Shared<Tree>,
     right: &Shared<Tree>,
-) -> Result<Next, AllocError>
-    ensures { IfOk result (λ next. StepsBy (logical_at at op left.now right.now) state.old next state.new) }
+) -> Result<Next, Over>
+    ensures { Comes result (λ next. StepsBy (logical_at at op left.now right.now) state.old next state.new) }
 {
     match state.stage() {
         0 => state.begin_with(at, left),
-        _ => match state.resume_value(left)? {
-            Valued::Left(next) => Ok(next),
-            Valued::Value(x) => {
-                if decides(op, &x) {
-                    Ok(state.give(x))
-                } else {
-                    state.become_part(right)
-                }
+        _ => {
+            let x = state.resume_value(left)?;
+            if decides(op, &x) {
+                Ok(state.give(x))
+            } else {
+                state.become_part(right)
             }
-        },
+        }
     }
 }

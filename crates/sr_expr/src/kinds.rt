@@ -1,4 +1,5 @@
 ghost use Rattle.std.specs.Prelude.{◌≡◌, IfOk};
+ghost use Rattle.sr_state.specs.Ends.{Comes};
 ghost use Rattle.sr_state.specs.Step.{StepsBy};
 ghost use Rattle.sr_expr.specs.Stages.{expression_at};
 
@@ -10,14 +11,13 @@ use crate::choice::{condition, logical};
 use crate::lists::sequence;
 use crate::unary::{prefix, update};
 use sr_ast::{Node, Tree};
-use sr_state::{Next, State};
+use sr_state::{Next, Over, State};
 use sr_value::Value;
 use std::alloc::AllocError;
 
-/// A step of the frame on top, which carries out this expression (ECMA-262 13). What is no expression or not built throws after its
-/// charge.
-pub fn step(state: &mut State, tree: &Tree) -> Result<Next, AllocError>
-    ensures { IfOk result (λ next. StepsBy (expression_at tree.now) state.old next state.new) }
+/// An expression, by its kind (ECMA-262 13). What is no expression or not built throws after its charge.
+fn expression(state: &mut State, tree: &Tree) -> Result<Next, Over>
+    ensures { Comes result (λ next. StepsBy (expression_at tree.now) state.old next state.new) }
 {
     let at = tree.from;
     match &tree.node {
@@ -30,10 +30,20 @@ pub fn step(state: &mut State, tree: &Tree) -> Result<Next, AllocError>
         Node::Update(op, target) => update(state, at, *op, target),
         Node::Call(link, callee, arguments) => linked(state, at, *link, callee, arguments),
         Node::Name(text) => name(state, at, text),
-        Node::Null => Ok(literal(state, at, Value::Null)),
-        Node::Bool(truth) => Ok(literal(state, at, Value::Bool(*truth))),
-        Node::Num(number) => Ok(literal(state, at, Value::Num(*number))),
-        Node::Text(text) => Ok(literal(state, at, Value::Str(text.clone()?))),
-        _ => Ok(not_built(state, at)),
+        Node::Null => literal(state, at, Value::Null),
+        Node::Bool(truth) => literal(state, at, Value::Bool(*truth)),
+        Node::Num(number) => literal(state, at, Value::Num(*number)),
+        Node::Text(text) => literal(state, at, Value::Str(text.clone()?)),
+        _ => not_built(state, at),
+    }
+}
+
+/// A step of the frame on top, which carries out this expression.
+pub fn step(state: &mut State, tree: &Tree) -> Result<Next, AllocError>
+    ensures { IfOk result (λ next. StepsBy (expression_at tree.now) state.old next state.new) }
+{
+    match expression(state, tree) {
+        Ok(next) | Err(Over::Next(next)) => Ok(next),
+        Err(Over::Memory) => Err(AllocError),
     }
 }

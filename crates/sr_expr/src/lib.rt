@@ -15,8 +15,6 @@ mod choice;
 mod kinds;
 /// Lists of expressions.
 mod lists;
-/// How far lists are carried out.
-mod places;
 /// Operators before or after one operand.
 mod unary;
 

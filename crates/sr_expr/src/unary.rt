@@ -1,45 +1,36 @@
-ghost use Rattle.std.specs.Prelude.{◌≡◌, IfOk};
+ghost use Rattle.std.specs.Prelude.{◌≡◌};
+ghost use Rattle.sr_state.specs.Ends.{Comes};
 ghost use Rattle.sr_state.specs.Step.{StepsBy};
 ghost use Rattle.sr_expr.specs.Rows as rows;
 ghost use Rattle.sr_expr.specs.Stages.{unary_at, prefix_at, update_at};
 
-use crate::assign::put;
+use crate::assign::put_and_give;
 use crate::basic::not_built;
 use sr_ast::{Tree, UnaryOp, UpdateOp};
 use sr_conv::{Computed, operate_one, shown, step_number};
 use sr_shared::Shared;
-use sr_state::{Next, State, StopName, Valued};
+use sr_state::{Next, Over, State, StopName};
 use sr_value::Value;
-use std::alloc::AllocError;
 
 /// The stage at which a string that was made is paid.
 const PAID: u32 = 2;
 
 /// An operator before its operand (ECMA-262 13.5).
-fn unary(
-    state: &mut State,
-    at: usize,
-    op: UnaryOp,
-    operand: &Shared<Tree>,
-) -> Result<Next, AllocError>
-    ensures { IfOk result (λ next. StepsBy (unary_at at op operand.now) state.old next state.new) }
+fn unary(state: &mut State, at: usize, op: UnaryOp, operand: &Shared<Tree>) -> Result<Next, Over>
+    ensures { Comes result (λ next. StepsBy (unary_at at op operand.now) state.old next state.new) }
 {
     match state.stage() {
         0 => state.begin_with(at, operand),
-        1 => match state.resume_value(operand)? {
-            Valued::Left(next) => Ok(next),
-            Valued::Value(x) => {
-                let came = operate_one(state.alloc(), op, &x)?;
-                match state.operated(came, PAID)? {
-                    Valued::Left(next) => Ok(next),
-                    Valued::Value(value) => Ok(state.give(value)),
-                }
-            }
-        },
-        _ => match state.pay_kept() {
-            Valued::Left(next) => Ok(next),
-            Valued::Value(value) => Ok(state.give(value)),
-        },
+        1 => {
+            let x = state.resume_value(operand)?;
+            let came = operate_one(state.alloc(), op, &x)?;
+            let value = state.operated(came, PAID)?;
+            Ok(state.give(value))
+        }
+        _ => {
+            let value = state.pay_kept()?;
+            Ok(state.give(value))
+        }
     }
 }
 
@@ -59,13 +50,13 @@ pub fn prefix(
     at: usize,
     op: UnaryOp,
     operand: &Shared<Tree>,
-) -> Result<Next, AllocError>
-    ensures { IfOk result (λ next. StepsBy (prefix_at at op operand.now) state.old next state.new) }
+) -> Result<Next, Over>
+    ensures { Comes result (λ next. StepsBy (prefix_at at op operand.now) state.old next state.new) }
 {
     if is_prefix_built(op) {
         unary(state, at, op, operand)
     } else {
-        Ok(not_built(state, at))
+        not_built(state, at)
     }
 }
 
@@ -75,21 +66,21 @@ pub fn update(
     at: usize,
     op: UpdateOp,
     target: &Shared<Tree>,
-) -> Result<Next, AllocError>
-    ensures { IfOk result (λ next. StepsBy (update_at at op target.now) state.old next state.new) }
+) -> Result<Next, Over>
+    ensures { Comes result (λ next. StepsBy (update_at at op target.now) state.old next state.new) }
 {
     match state.stage() {
         0 => state.begin_with(at, target),
-        _ => match state.resume_value(target)? {
-            Valued::Left(next) => Ok(next),
-            Valued::Value(old) => match step_number(op, &old) {
+        _ => {
+            let old = state.resume_value(target)?;
+            match step_number(op, &old) {
                 Computed::Is(n) => {
-                    put(state, target, &Value::Num(n.after))?;
-                    Ok(state.give(Value::Num(shown(op, n))))
+                    let after = Value::Num(n.after);
+                    put_and_give(state, target, after, Value::Num(shown(op, n)))
                 }
                 Computed::Stops(stop) => Ok(Next::Halt(StopName::Number(stop))),
                 Computed::Fails => Ok(state.throw()),
-            },
-        },
+            }
+        }
     }
 }

@@ -1,5 +1,5 @@
 -- The ends of parts, as the definitions have them.
-use Rattle.std.specs.Prelude.{◌≡◌}
+use Rattle.std.specs.Prelude.{◌≡◌, Result, Ok, Err}
 use Rattle.sr_conv.specs.Plain.{value_of, option_of, number_stop_of}
 use Rattle.sr_model.specs.Outcomes as model
 use Rattle.sr_state.specs.declared.ends.Abrupt.{Abrupt}
@@ -12,6 +12,8 @@ use Rattle.sr_state.specs.declared.ends.Answer.{Answer}
 use Rattle.sr_state.specs.declared.ends.Answer.TheVariants as answer
 use Rattle.sr_state.specs.declared.ends.Next.{Next}
 use Rattle.sr_state.specs.declared.ends.Next.TheVariants as next
+use Rattle.sr_state.specs.declared.ends.Over.{Over}
+use Rattle.sr_state.specs.declared.ends.Over.TheVariants as over
 
 -- an end otherwise than normally
 abbrev pub abrupt_of : Abrupt → model.AbruptCompletion
@@ -46,3 +48,9 @@ HaltsBy next.Going y = ⊥
 HaltsBy next.Ended y = ⊥
 HaltsBy (next.Print text) y = ⊥
 HaltsBy next.CutOff y = ⊥
+
+-- of what a step came to this holds. Of want of memory nothing is said
+abbrev pub Comes : Result Next Over → (Next → Type 0) → Type 0
+Comes (Ok n) P = P n
+Comes (Err (over.Next n)) P = P n
+Comes (Err over.Memory) P = Unit {0}

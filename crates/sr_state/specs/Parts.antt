@@ -1,5 +1,5 @@
 -- What the calls that all rows use leave of a step.
-use Rattle.std.specs.Prelude.{◌≡◌, ◌⊎◌, ◌++◌, ◌/◌, ℕ, suc, true, false, nat_le, List, [], length, Option, None, Some}
+use Rattle.std.specs.Prelude.{◌≡◌, ◌⊎◌, ◌++◌, ◌/◌, ℕ, suc, true, false, nat_le, [], length, Option, None, Some, Result, Ok, Err}
 use Rattle.sr_ast.specs.declared.tree.Tree.{Tree}
 use Rattle.sr_value.specs.declared.value.Value.{Value}
 use Rattle.sr_value.specs.declared.value.Value.TheVariants as value
@@ -19,15 +19,13 @@ use Rattle.sr_state.specs.declared.ends.Completion.TheVariants as completion
 use Rattle.sr_state.specs.declared.ends.Answer.TheVariants as answer
 use Rattle.sr_state.specs.declared.ends.Next.{Next}
 use Rattle.sr_state.specs.declared.ends.Next.TheVariants as next
+use Rattle.sr_state.specs.declared.ends.Over.{Over}
+use Rattle.sr_state.specs.declared.ends.Over.TheVariants as over
 use Rattle.sr_state.specs.declared.ends.StopName.TheVariants as stop
-use Rattle.sr_state.specs.declared.parts.Resumed.{Resumed}
-use Rattle.sr_state.specs.declared.parts.Resumed.TheVariants as resumed
-use Rattle.sr_state.specs.declared.parts.Valued.{Valued}
-use Rattle.sr_state.specs.declared.parts.Valued.TheVariants as valued
-use Rattle.sr_state.specs.Ends.{abrupt_of, completion_of, HaltsBy}
-use Rattle.sr_state.specs.Held.{Held, Side, realm_in, pay_in, begun_in, room_in, cut_in, with_side, answered, staged, keeping, topped, deeper, above}
 use Rattle.sr_state.specs.declared.parts.Operand as code
 use Rattle.sr_state.specs.declared.parts.Operand.TheVariants as told
+use Rattle.sr_state.specs.Ends.{completion_of, HaltsBy}
+use Rattle.sr_state.specs.Held.{Held, Side, fresh_frame, realm_in, pay_in, begun_in, room_in, cut_in, with_side, answered, staged, keeping, topped, deeper, above}
 use Rattle.sr_state.specs.Step.{Operand, Literal, Name, operand_of, end_of}
 use Rattle.sr_state.specs.Trees.{value_in, text_in, text_limit, text_cost}
 
@@ -45,35 +43,41 @@ IsRefused c h n =
 abbrev pub emptied : Held → Held
 emptied h = answered answer.Empty h
 
--- a charge, after which the side is the one that f makes: paid, or the step is over. A step that was given an end ends before it
-abbrev pub Paying : ℕ → (Side → Side) → Held → Option Next → Held → Type 0
-Paying c f old None new = (old.answer ≡ answer.Empty) × IsPayable c old × (new ≡ with_side (emptied old) (f old.side))
-Paying c f old (Some n) new =
-    ((o : Completion) × (old.answer ≡ answer.Done o) × (n ≡ next.Going) × (new ≡ emptied old))
-    ⊎ ((old.answer ≡ answer.Empty) × IsRefused c old n × (new ≡ emptied old))
+-- a step begins: one that was given an end is over
+abbrev pub Starts : Held → Result (Unit {0}) Next → Held → Type 0
+Starts old (Ok u) new = (old.answer ≡ answer.Empty) × (new ≡ emptied old)
+Starts old (Err n) new = (o : Completion) × (old.answer ≡ answer.Done o) × (n ≡ next.Going) × (new ≡ emptied old)
+
+-- a charge, after which the side is the one that f makes: paid, or the step is over
+abbrev pub Spends : ℕ → (Side → Side) → Held → Result (Unit {0}) Next → Held → Type 0
+Spends c f old (Ok u) new = IsPayable c old × (new ≡ with_side old (f old.side))
+Spends c f old (Err n) new = IsRefused c old n × (new ≡ old)
+
+-- the same as a step begins
+abbrev pub Paying : ℕ → (Side → Side) → Held → Result (Unit {0}) Next → Held → Type 0
+Paying c f old (Ok u) new = (old.answer ≡ answer.Empty) × IsPayable c old × (new ≡ with_side (emptied old) (f old.side))
+Paying c f old (Err n) new = Starts old (Err n) new ⊎ ((old.answer ≡ answer.Empty) × IsRefused c old n × (new ≡ emptied old))
 
 -- the entry of a function is refused: one call more is too many, or its step cannot be paid
 abbrev pub IsShut : Held → Next → Type 0
 IsShut h n = (let f = h.top in ((may_enter f.calls ≡ false) × (n ≡ next.Halt stop.CallDepth)) ⊎ ((may_enter f.calls ≡ true) × IsRefused 1 h n))
 
--- the entry of a function as a step begins: it is entered, or the step is over. A step that was given an end ends before it
-abbrev pub Enters : Held → Option Next → Held → Type 0
-Enters old None new =
+-- the entry of a function as a step begins: it is entered, or the step is over
+abbrev pub Enters : Held → Result (Unit {0}) Next → Held → Type 0
+Enters old (Ok u) new =
     (let f = old.top in (old.answer ≡ answer.Empty) × (may_enter f.calls ≡ true) × IsPayable 1 old × (new ≡ deeper (with_side (emptied old) (pay_in 1 old.side))))
-Enters old (Some n) new =
-    ((o : Completion) × (old.answer ≡ answer.Done o) × (n ≡ next.Going) × (new ≡ emptied old))
-    ⊎ ((old.answer ≡ answer.Empty) × IsShut old n × (new ≡ emptied old))
+Enters old (Err n) new = Starts old (Err n) new ⊎ ((old.answer ≡ answer.Empty) × IsShut old n × (new ≡ emptied old))
 
--- the frame of a tree, as it begins
-abbrev pub tree_frame : ℕ → Tree → ℕ → Frame
-tree_frame source t k = record { activity = activity.Tree t; source = source; stage = 0; calls = k; value = None; list = [] }
+-- a frame of a part of what a frame carries out
+abbrev pub part_frame : Tree → Frame → Frame
+part_frame t f = fresh_frame (activity.Tree t) f.source f.calls []
 
--- a frame of this tree above the one on top, and in its place
+-- such a frame above the one on top, and in its place
 abbrev pub part_begun : Tree → Held → Held
-part_begun t h = (let f = h.top in above (tree_frame f.source t f.calls) h)
+part_begun t h = above (part_frame t h.top) h
 
-abbrev pub become : Tree → Held → Held
-become t h = (let f = h.top in record h { top = tree_frame f.source t f.calls })
+abbrev pub Becomes : Tree → Held → Next → Held → Type 0
+Becomes t old n new = (n ≡ next.Going) × (new ≡ topped (part_frame t old.top) old)
 
 -- the state once an operand of the frame on top has paid its step
 abbrev pub operand_paid : Tree → Held → Held
@@ -83,32 +87,35 @@ operand_paid t h = (let f = h.top in with_side h (begun_in f.source t.from h.sid
 abbrev pub operand_end : Operand → Tree → Held → model_ends.Completion
 operand_end z t h = (let g = operand_paid t h in end_of z (realm_in g.side))
 
--- what came of an operand that begins a step: it could not pay, it has no value, or it has one
-abbrev pub Evaluates : Operand → Tree → Held → Resumed → Held → Type 0
-Evaluates z t old (resumed.Left n) new =
+-- what came of an operand that begins a step: it has a value, or it could not pay or has none
+abbrev pub Evaluates : Operand → Tree → Held → Result (Option Value) Over → Held → Type 0
+Evaluates z t old (Ok v) new = IsPayable 1 old × (completion_of (completion.Normal v) ≡ operand_end z t old) × (new ≡ operand_paid t old)
+Evaluates z t old (Err (over.Next n)) new =
     (IsRefused 1 old n × (new ≡ old))
     ⊎ ((x : Abrupt) × IsPayable 1 old × (n ≡ next.Ended) × (completion_of (completion.Abrupt x) ≡ operand_end z t old) × (new ≡ answered (answer.Done (completion.Abrupt x)) (operand_paid t old)))
-Evaluates z t old (resumed.Ended v) new = IsPayable 1 old × (completion_of (completion.Normal v) ≡ operand_end z t old) × (new ≡ operand_paid t old)
+Evaluates z t old (Err over.Memory) new = Unit {0}
 
--- what came of a part that begins: a frame was made for it, or it is an operand
-abbrev pub Opens : Tree → Held → Resumed → Held → Type 0
-Opens t old (resumed.Left n) new =
-    ((operand_of t ≡ None) × (n ≡ next.Going) × (new ≡ part_begun t old)) ⊎ ((z : Operand) × (operand_of t ≡ Some z) × Evaluates z t old (resumed.Left n) new)
-Opens t old (resumed.Ended v) new = (z : Operand) × (operand_of t ≡ Some z) × Evaluates z t old (resumed.Ended v) new
+-- what came of a part that begins: it is an operand, or a frame was made for it
+abbrev pub Opens : Tree → Held → Result (Option Value) Over → Held → Type 0
+Opens t old (Ok v) new = (z : Operand) × (operand_of t ≡ Some z) × Evaluates z t old (Ok v) new
+Opens t old (Err (over.Next n)) new =
+    ((operand_of t ≡ None) × (n ≡ next.Going) × (new ≡ part_begun t old))
+    ⊎ ((z : Operand) × (operand_of t ≡ Some z) × Evaluates z t old (Err (over.Next n)) new)
+Opens t old (Err over.Memory) new = Unit {0}
 
 -- what came of a part: it had ended, or it begins
-abbrev pub Resumes : Tree → Held → Resumed → Held → Type 0
-Resumes t old (resumed.Left n) new =
+abbrev pub Resumes : Tree → Held → Result (Option Value) Over → Held → Type 0
+Resumes t old (Ok v) new =
+    ((old.answer ≡ answer.Done (completion.Normal v)) × (new ≡ emptied old)) ⊎ ((old.answer ≡ answer.Empty) × Opens t (emptied old) (Ok v) new)
+Resumes t old (Err (over.Next n)) new =
     ((x : Abrupt) × (old.answer ≡ answer.Done (completion.Abrupt x)) × (n ≡ next.Ended) × (new ≡ answered (answer.Done (completion.Abrupt x)) old))
-    ⊎ ((old.answer ≡ answer.Empty) × Opens t (emptied old) (resumed.Left n) new)
-Resumes t old (resumed.Ended v) new =
-    ((old.answer ≡ answer.Done (completion.Normal v)) × (new ≡ emptied old))
-    ⊎ ((old.answer ≡ answer.Empty) × Opens t (emptied old) (resumed.Ended v) new)
+    ⊎ ((old.answer ≡ answer.Empty) × Opens t (emptied old) (Err (over.Next n)) new)
+Resumes t old (Err over.Memory) new = Unit {0}
 
 -- the same of a part by its value
-abbrev pub ResumesValue : Tree → Held → Valued → Held → Type 0
-ResumesValue t old (valued.Left n) new = Resumes t old (resumed.Left n) new
-ResumesValue t old (valued.Value w) new = (v : Option Value) × (value_of w ≡ value_in (option_of v)) × Resumes t old (resumed.Ended v) new
+abbrev pub ResumesValue : Tree → Held → Result Value Over → Held → Type 0
+ResumesValue t old (Ok w) new = (v : Option Value) × (value_of w ≡ value_in (option_of v)) × Resumes t old (Ok v) new
+ResumesValue t old (Err e) new = Resumes t old (Err e) new
 
 -- a part that comes later in a step: a frame is made for it, but for a literal or a name, before which the step ends
 abbrev pub BeginsPart : Tree → Held → Next → Held → Type 0
@@ -120,8 +127,8 @@ BeginsPart t old n new =
 abbrev pub BeginsWith : ℕ → Tree → Held → Next → Held → Type 0
 BeginsWith at t old n new =
     (let f = old.top in
-    Paying 1 (begun_in f.source at) old (Some n) new
-    ⊎ ((mid : Held) × Paying 1 (begun_in f.source at) old None mid × BeginsPart t (staged 1 mid) n new))
+    Paying 1 (begun_in f.source at) old (Err n) new
+    ⊎ ((mid : Held) × Paying 1 (begun_in f.source at) old (Ok tt) mid × BeginsPart t (staged 1 mid) n new))
 
 -- the end of the frame on top
 abbrev pub EndsWith : Completion → Held → Next → Held → Type 0
@@ -141,38 +148,48 @@ abbrev pub IsCost : ℕ → Option ℕ → Type 0
 IsCost n None = n / 256 ≡ 0
 IsCost n (Some c) = n / 256 ≡ suc c
 
--- what an operator came to, where the step is over: it is refused, it stops the run, the string that it joins is too long, or the
--- string is made and kept, and the frame waits at a stage at which it is paid
+-- a string that was made: it costs nothing, or it is kept, and the frame waits at a stage at which it is paid
+abbrev pub Makes : ℕ → model.Text → Held → Result model.Text Next → Held → Type 0
+Makes stage text old (Ok s) new = (text_cost text ≡ 0) × (s ≡ text) × (new ≡ old)
+Makes stage text old (Err n) new =
+    (c : ℕ) × (v : Value) × (text_cost text ≡ suc c) × (value_of v ≡ model.Simple (model.Str text)) × (n ≡ next.Going) × (new ≡ keeping (Some v) (staged stage old))
+
+-- a string that waits is paid for. One that costs nothing never waits
+abbrev pub PaysFor : ℕ → Held → Result (Unit {0}) Next → Held → Type 0
+PaysFor units old (Ok u) new = (c : ℕ) × (units / 256 ≡ suc c) × Paying (suc c) (pay_in (suc c)) old (Ok u) new
+PaysFor units old (Err n) new =
+    ((units / 256 ≡ 0) × EndsWith no_error old n new) ⊎ ((c : ℕ) × (units / 256 ≡ suc c) × Paying (suc c) (pay_in (suc c)) old (Err n) new)
+
+-- what an operator came to, where the step is over: it is refused, it stops the run, the string that it joins is too long, or it waits
+-- to be paid
 abbrev pub Fails : ℕ → Operated → Held → Next → Held → Type 0
 Fails stage w old n new =
     ((w ≡ Rejects) × EndsWith no_error old n new)
     ⊎ (((y : Stop) × (w ≡ Halts y) × HaltsBy n y × (new ≡ old))
     ⊎ (((s t : model.Text) × (w ≡ Joins s t) × (nat_le (length (s ++ t)) text_limit ≡ false) × (n ≡ next.Halt stop.StringLength) × (new ≡ old))
-    ⊎ ((s t : model.Text) × (c : ℕ) × (v : Value) × (w ≡ Joins s t) × (nat_le (length (s ++ t)) text_limit ≡ true) × (text_cost (s ++ t) ≡ suc c)
-    × (value_of v ≡ model.Simple (model.Str (s ++ t))) × (n ≡ next.Going) × (new ≡ keeping (Some v) (staged stage old)))))
+    ⊎ ((s t : model.Text) × (w ≡ Joins s t) × (nat_le (length (s ++ t)) text_limit ≡ true) × Makes stage (s ++ t) old (Err n) new)))
 
 -- the value that it came to; a string that it joined costs nothing
-abbrev pub Comes : Operated → Value → Type 0
-Comes w v =
+abbrev pub IsResult : Operated → Value → Type 0
+IsResult w v =
     (w ≡ Gives (value_of v))
     ⊎ ((s t : model.Text) × (w ≡ Joins s t) × (nat_le (length (s ++ t)) text_limit ≡ true) × (text_cost (s ++ t) ≡ 0) × (value_of v ≡ model.Simple (model.Str (s ++ t))))
 
-abbrev pub Operates : ℕ → Operated → Held → Valued → Held → Type 0
-Operates stage w old (valued.Left n) new = Fails stage w old n new
-Operates stage w old (valued.Value v) new = Comes w v × (new ≡ old)
+abbrev pub Operates : ℕ → Operated → Held → Result Value Over → Held → Type 0
+Operates stage w old (Ok v) new = IsResult w v × (new ≡ old)
+Operates stage w old (Err (over.Next n)) new = Fails stage w old n new
+Operates stage w old (Err over.Memory) new = Unit {0}
 
 -- the value that the frame on top keeps
 abbrev pub kept_in : Held → model.Value
 kept_in h = (let f = h.top in value_in (option_of f.value))
 
 -- a string that is kept is paid for
-abbrev pub PaysKept : Held → Valued → Held → Type 0
-PaysKept old (valued.Left n) new = (c : ℕ) × (text_cost (text_in (kept_in old)) ≡ suc c) × Paying (suc c) (pay_in (suc c)) old (Some n) new
-PaysKept old (valued.Value v) new =
-    (value_of v ≡ kept_in old)
-    × (((text_cost (text_in (kept_in old)) ≡ 0) × (new ≡ keeping None old))
-    ⊎ ((c : ℕ) × (mid : Held) × (text_cost (text_in (kept_in old)) ≡ suc c) × Paying (suc c) (pay_in (suc c)) old None mid × (new ≡ keeping None mid)))
+abbrev pub PaysKept : Held → Result Value Next → Held → Type 0
+PaysKept old (Ok v) new =
+    (value_of v ≡ kept_in old) × (mid : Held) × PaysFor (length (text_in (kept_in old))) old (Ok tt) mid × (new ≡ keeping None mid)
+PaysKept old (Err n) new = PaysFor (length (text_in (kept_in old))) old (Err n) new
 
 -- the frame on top goes on as a call of a built-in function
 abbrev pub performing : BuiltIn → Held → Held
-performing b h = (let f = h.top in topped (record { activity = activity.BuiltIn b; source = 0; stage = 0; calls = f.calls; value = None; list = f.list }) h)
+performing b h = (let f = h.top in topped (fresh_frame (activity.BuiltIn b) 0 f.calls f.list) h)

@@ -22,7 +22,7 @@ use Rattle.sr_state.specs.declared.ends.Next.TheVariants as next
 use Rattle.sr_state.specs.declared.ends.StopName.TheVariants as stop
 use Rattle.sr_state.specs.Work as language
 use Rattle.sr_state.specs.Ends.{completion_of, IsEnd, HaltsBy}
-use Rattle.sr_state.specs.Held.{Held, Side, Outer, realm_in, change_in, pay_in, begun_in, room_in, cut_in}
+use Rattle.sr_state.specs.Held.{Held, Side, Outer, fresh_frame, realm_in, change_in, pay_in, begun_in, room_in, cut_in}
 
 -- what a frame keeps between its steps: a value, and a list of values
 pub record Kept : Type 0 where
@@ -86,7 +86,7 @@ far_of (answer.Done o) = Resumed
 
 -- a frame that begins a task with k active calls. There is one environment, the global one, with the number 0
 abbrev pub IsFresh : language.Work → ℕ → Frame → Type 0
-IsFresh (Run source environment tree) k f = (environment ≡ 0) × (f ≡ record { activity = activity.Tree tree; source = source; stage = 0; calls = k; value = None; list = [] })
+IsFresh (Run source environment tree) k f = (environment ≡ 0) × (f ≡ fresh_frame (activity.Tree tree) source k [])
 IsFresh (Perform b this args target) k f = (f.activity ≡ activity.BuiltIn b) × (f.stage ≡ 0) × (f.calls ≡ k) × (let x = kept_of f in x.list ≡ args)
 IsFresh (Apply f this args) k c = ⊥
 IsFresh (Construct f args target) k c = ⊥

@@ -1,5 +1,5 @@
 -- Words for the rows of trees.
-use Rattle.std.specs.Prelude.{ℕ, ◌/◌, nat_le, ◌++◌, [], length, Option, None, Some}
+use Rattle.std.specs.Prelude.{ℕ, zero, suc, ◌/◌, nat_le, ◌++◌, [], length, Option, None, Some}
 use Rattle.sr_ast.specs.declared.tree.Tree.{Tree}
 use Rattle.sr_model.specs.Values.{Text, Value, Simple, Undefined, Str}
 use Rattle.sr_model.specs.Outcomes.{Completion, Normal, Abrupt, Leave, Throw, StringLength}
@@ -63,9 +63,13 @@ abbrev pub text_in : Value → Text
 text_in (Simple (Str text)) = text
 text_in v = []
 
--- a string that was made and is kept is paid for
-abbrev pub paid_value : Value → (Value → Steps) → Steps
-paid_value v k = paid_for (text_in v) (k v)
+-- a frame that waits to pay for a text, which costs a step or more, and goes on; and one that keeps the text as a string
+abbrev pub paid_at : ℕ → Steps → Steps
+paid_at zero k = throw_error
+paid_at (suc c) k = Pay c k
+
+abbrev pub kept_at : Option Value → (Value → Steps) → Steps
+kept_at v k = paid_at (text_cost (text_in (value_in v))) (k (value_in v))
 
 -- trees of a source, in an environment
 module _ (source environment : ℕ) where

@@ -1,6 +1,5 @@
-ghost use Rattle.std.specs.Prelude.{◌≡◌, None, []};
-ghost use Rattle.sr_state.specs.Held.{idle};
-ghost use Rattle.sr_state.specs.Parts.{tree_frame};
+ghost use Rattle.std.specs.Prelude.{◌≡◌};
+ghost use Rattle.sr_state.specs.Held.{fresh_frame, idle};
 
 use sqlite_items::Items;
 use sr_ast::{Code, SourceCode};
@@ -45,31 +44,24 @@ pub struct Frame {
 }
 
 impl Frame {
-    /// A frame that carries nothing out.
-    pub fn idle(alloc: Global) -> Frame
-        ensures { result ≡ idle }
+    /// A frame that begins this, of a source, with these active calls and this list.
+    pub fn new(activity: Activity, source: u32, calls: u32, list: Items<Value>) -> Frame
+        ensures { result ≡ fresh_frame activity source calls list }
     {
         Frame {
-            activity: Activity::Idle,
-            source: 0,
-            stage: 0,
-            calls: 0,
-            value: None,
-            list: Items::new(alloc),
-        }
-    }
-
-    /// A frame that begins a tree of this source.
-    pub fn of_tree(alloc: Global, source: u32, tree: Code, calls: u32) -> Frame
-        ensures { result ≡ tree_frame source tree calls }
-    {
-        Frame {
-            activity: Activity::Tree(tree),
+            activity,
             source,
             stage: 0,
             calls,
             value: None,
-            list: Items::new(alloc),
+            list,
         }
+    }
+
+    /// A frame that carries nothing out.
+    pub fn idle(alloc: Global) -> Frame
+        ensures { result ≡ idle }
+    {
+        Frame::new(Activity::Idle, 0, 0, Items::new(alloc))
     }
 }

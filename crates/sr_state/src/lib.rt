@@ -14,12 +14,15 @@ mod globals;
 mod parts;
 /// A realm.
 mod realm;
+/// Numbers of stages, and what stands at a place of a list.
+mod stages;
 /// The state.
 mod state;
 
-pub use ends::{Abrupt, Answer, Charge, Completion, Leaving, Next, StopName};
+pub use ends::{Abrupt, Answer, Charge, Completion, Leaving, Next, Over, StopName};
 pub use errors::{ErrorName, ErrorObject, syntax_message};
 pub use frame::{Activity, BuiltIn, Frame};
-pub use parts::{Resumed, Valued, string_cost, value_or_undefined};
+pub use parts::string_cost;
 pub use realm::{Kept, Link};
+pub use stages::{after, before, here};
 pub use state::{Level, State};

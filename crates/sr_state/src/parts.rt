@@ -2,16 +2,17 @@ ghost use Rattle.std.specs.Prelude.{◌≡◌, ◌++◌, length, Option, Some, o
 ghost use Rattle.sr_conv.specs.Plain.{value_of, option_of};
 ghost use Rattle.sr_conv.specs.Answers.{operated_of};
 ghost use Rattle.sr_conv.specs.Operators.{Joins};
-ghost use Rattle.sr_state.specs.declared.ends.Answer.TheVariants as answer;
 ghost use Rattle.sr_state.specs.declared.ends.Completion.TheVariants as completion;
 ghost use Rattle.sr_state.specs.Trees.{value_in, text_in};
-ghost use Rattle.sr_state.specs.Held.{pay_in, begun_in};
+ghost use Rattle.sr_state.specs.Ends.{Comes};
+ghost use Rattle.sr_state.specs.Held.{pay_in, begun_in, keeping};
 ghost use Rattle.sr_state.specs.Step.{operand_of};
-ghost use Rattle.sr_state.specs.Parts.{Paying, Enters, Evaluates, Opens, Resumes, ResumesValue, BeginsPart, BeginsWith, EndsWith, Operates, IsCost, no_error, operand_told, become, part_begun, PaysKept, performing};
+ghost use Rattle.sr_state.specs.Parts.{Starts, Spends, Paying, Enters, Evaluates, Opens, Resumes, ResumesValue, BeginsPart, BeginsWith, Becomes, EndsWith, Makes, Operates, IsCost, no_error, operand_told, part_frame, part_begun, kept_in, PaysFor, PaysKept, performing};
 
-use crate::ends::{Abrupt, Answer, Charge, Completion, Next, StopName};
+use crate::ends::{Abrupt, Answer, Charge, Completion, Next, Over, StopName};
 use crate::frame::{Activity, BuiltIn, Frame};
 use crate::state::State;
+use sqlite_items::Items;
 use sr_ast::{Code, Node, Tree};
 use sr_conv::Operated;
 use sr_shared::Shared;
@@ -19,26 +20,8 @@ use sr_text::Str;
 use sr_value::Value;
 use std::alloc::{AllocError, Global};
 
-/// What came of a part.
-#[derive(Debug, Drop)]
-pub enum Resumed {
-    /// The step is over.
-    Left(Next),
-    /// The part ended normally, with a value or empty.
-    Ended(Option<Value>),
-}
-
-/// What came of a part that has a value.
-#[derive(Debug, Drop)]
-pub enum Valued {
-    /// The step is over.
-    Left(Next),
-    /// The value.
-    Value(Value),
-}
-
 /// The value of an end; an empty one counts as undefined.
-pub fn value_or_undefined(value: Option<Value>) -> Value
+fn value_or_undefined(value: Option<Value>) -> Value
     ensures { value_of result ≡ value_in (option_of value) }
 {
     match value {
@@ -71,53 +54,77 @@ fn operand_in(tree: &Tree) -> Result<Option<Operand<'_>>, AllocError>
 }
 
 impl State {
-    /// Pays so many steps, as a step begins. Some: the step is over.
-    pub fn pay(&mut self, cost: u64) -> Option<Next>
+    /// A step begins. One that was given an end is over.
+    fn start(&mut self) -> Result<(), Next>
+        ensures { Starts self.old result self.new }
+    {
+        match self.take_answer() {
+            Answer::Done(_) => Err(Next::Going),
+            Answer::Empty => Ok(()),
+        }
+    }
+
+    /// Pays so many steps, or the step is over.
+    fn spend(&mut self, cost: u64) -> Result<(), Next>
+        ensures { Spends cost (pay_in cost) self.old result self.new }
+    {
+        match self.charge(cost) {
+            Charge::Taken => Ok(()),
+            Charge::Bound => Err(self.out_of_steps(cost)),
+            Charge::Cut => Err(Next::CutOff),
+        }
+    }
+
+    /// Pays the step of a tree of the frame on top that begins at this place, counted in code units, or the step is over.
+    fn spend_at(&mut self, at: usize) -> Result<(), Next>
+        ensures { Spends 1 (begun_in self.old.top.source at) self.old result self.new }
+    {
+        match self.charge_tree(self.top().source, at) {
+            Charge::Taken => Ok(()),
+            Charge::Bound => Err(self.out_of_steps(1)),
+            Charge::Cut => Err(Next::CutOff),
+        }
+    }
+
+    /// Pays so many steps as a step begins, or the step is over.
+    pub fn pay(&mut self, cost: u64) -> Result<(), Next>
         ensures { Paying cost (pay_in cost) self.old result self.new }
     {
-        match self.take_answer() {
-            Answer::Done(_) => Some(Next::Going),
-            Answer::Empty => match self.charge(cost) {
-                Charge::Taken => None,
-                Charge::Bound => Some(self.out_of_steps(cost)),
-                Charge::Cut => Some(Next::CutOff),
-            },
-        }
+        self.start()?;
+        self.spend(cost)
     }
 
-    /// Pays the step of a tree of the frame on top that begins at this place, counted in code units, as a step begins. Some: the
-    /// step is over.
-    pub fn begin(&mut self, at: usize) -> Option<Next>
+    /// Pays the step of a tree of the frame on top that begins at this place, counted in code units, as a step begins, or the step
+    /// is over.
+    pub fn begin(&mut self, at: usize) -> Result<(), Next>
         ensures { Paying 1 (begun_in self.old.top.source at) self.old result self.new }
     {
-        match self.take_answer() {
-            Answer::Done(_) => Some(Next::Going),
-            Answer::Empty => match self.charge_tree(self.top().source, at) {
-                Charge::Taken => None,
-                Charge::Bound => Some(self.out_of_steps(1)),
-                Charge::Cut => Some(Next::CutOff),
-            },
+        self.start()?;
+        self.spend_at(at)
+    }
+
+    /// Enters a function as a step begins, or the step is over: the limit of active calls is tested before the step of the entry is
+    /// paid.
+    pub fn enter(&mut self) -> Result<(), Next>
+        ensures { Enters self.old result self.new }
+    {
+        self.start()?;
+        if self.top().calls < MAX_CALLS {
+            self.spend(1)?;
+            self.deepen();
+            Ok(())
+        } else {
+            Err(Next::Halt(StopName::CallDepth))
         }
     }
 
-    /// Enters a function, as a step begins: the limit of active calls is tested before its step is paid. Some: the step is over.
-    pub fn enter(&mut self) -> Option<Next>
-        ensures { Enters self.old result self.new }
+    /// A frame of a part of what the frame on top carries out.
+    fn part_frame(&self, part: &Shared<Tree>) -> Result<Frame, AllocError>
+        ensures { IfOk result (λ frame. frame ≡ part_frame part.now self.now.top) }
     {
-        if self.top().calls < MAX_CALLS {
-            match self.pay(1) {
-                Some(next) => Some(next),
-                None => {
-                    self.deepen();
-                    None
-                }
-            }
-        } else {
-            match self.take_answer() {
-                Answer::Done(_) => Some(Next::Going),
-                Answer::Empty => Some(Next::Halt(StopName::CallDepth)),
-            }
-        }
+        let code = Activity::Tree(Code::new(part)?);
+        let top = self.top();
+        Ok(Frame::new(code, top.source, top.calls, Items::new(self.alloc())))
     }
 
     /// Makes a frame for a part, above the one on top.
@@ -125,98 +132,83 @@ impl State {
         ensures next { IfOk result (λ next. next ≡ Next.Going) }
         ensures state { OnOk result (self.new ≡ part_begun part.now self.old) }
     {
-        let source = self.top().source;
-        let calls = self.top().calls;
-        let frame = Frame::of_tree(self.alloc(), source, Code::new(part)?, calls);
+        let frame = self.part_frame(part)?;
         self.push(frame)?;
         Ok(Next::Going)
     }
 
     /// The frame on top goes on as that of a tree.
-    pub fn become_part(&mut self, part: &Shared<Tree>) -> Result<Next, AllocError>
-        ensures next { IfOk result (λ next. next ≡ Next.Going) }
-        ensures state { OnOk result (self.new ≡ become part.now self.old) }
+    pub fn become_part(&mut self, part: &Shared<Tree>) -> Result<Next, Over>
+        ensures { Comes result (λ next. Becomes part.now self.old next self.new) }
     {
-        let source = self.top().source;
-        let calls = self.top().calls;
-        let frame = Frame::of_tree(self.alloc(), source, Code::new(part)?, calls);
+        let frame = self.part_frame(part)?;
         self.replace_top(frame);
         Ok(Next::Going)
     }
 
-    /// Evaluates an operand that begins at this place, in a step that begins with it.
-    fn evaluate(&mut self, operand: Operand<'_>, tree: &Tree) -> Result<Resumed, AllocError>
-        ensures { IfOk result (λ r. Evaluates (operand_told operand.entry) tree.now self.old r self.new) }
+    /// Evaluates an operand that begins a step.
+    fn evaluate(&mut self, operand: Operand<'_>, tree: &Tree) -> Result<Option<Value>, Over>
+        ensures { Evaluates (operand_told operand.entry) tree.now self.old result self.new }
     {
-        match self.charge_tree(self.top().source, tree.from) {
-            Charge::Bound => Ok(Resumed::Left(self.out_of_steps(1))),
-            Charge::Cut => Ok(Resumed::Left(Next::CutOff)),
-            Charge::Taken => match operand {
-                Operand::Literal(value) => Ok(Resumed::Ended(Some(value))),
-                Operand::Name(name) => match self.global(name)? {
-                    Some(value) => Ok(Resumed::Ended(Some(value))),
-                    None => Ok(Resumed::Left(self.throw())),
-                },
+        self.spend_at(tree.from)?;
+        match operand {
+            Operand::Literal(value) => Ok(Some(value)),
+            Operand::Name(name) => match self.global(name)? {
+                Some(value) => Ok(Some(value)),
+                None => Err(Over::Next(self.throw())),
             },
         }
     }
 
     /// Begins a part: a literal or a name is evaluated, and for any other a frame is made.
-    fn open(&mut self, part: &Shared<Tree>) -> Result<Resumed, AllocError>
-        ensures { IfOk result (λ r. Opens part.now self.old r self.new) }
+    fn open(&mut self, part: &Shared<Tree>) -> Result<Option<Value>, Over>
+        ensures { Opens part.now self.old result self.new }
     {
         match operand_in(part.get())? {
-            None => Ok(Resumed::Left(self.push_part(part)?)),
+            None => Err(Over::Next(self.push_part(part)?)),
             Some(operand) => self.evaluate(operand, part.get()),
         }
     }
 
-    /// The end of a part as the step begins: where the part has not begun, it begins.
-    pub fn resume(&mut self, part: &Shared<Tree>) -> Result<Resumed, AllocError>
-        ensures { IfOk result (λ r. Resumes part.now self.old r self.new) }
+    /// The end of a part as the step begins, where it ended normally: where it has not begun, it begins.
+    pub fn resume(&mut self, part: &Shared<Tree>) -> Result<Option<Value>, Over>
+        ensures { Resumes part.now self.old result self.new }
     {
         match self.take_answer() {
             Answer::Empty => self.open(part),
-            Answer::Done(Completion::Normal(value)) => Ok(Resumed::Ended(value)),
+            Answer::Done(Completion::Normal(value)) => Ok(value),
             Answer::Done(Completion::Abrupt(abrupt)) => {
                 self.put_answer(Answer::Done(Completion::Abrupt(abrupt)));
-                Ok(Resumed::Left(Next::Ended))
+                Err(Over::Next(Next::Ended))
             }
         }
     }
 
     /// The value of a part as the step begins: where the part has not begun, it begins.
-    pub fn resume_value(&mut self, part: &Shared<Tree>) -> Result<Valued, AllocError>
-        ensures { IfOk result (λ r. ResumesValue part.now self.old r self.new) }
+    pub fn resume_value(&mut self, part: &Shared<Tree>) -> Result<Value, Over>
+        ensures { ResumesValue part.now self.old result self.new }
     {
-        match self.resume(part)? {
-            Resumed::Left(next) => Ok(Valued::Left(next)),
-            Resumed::Ended(value) => Ok(Valued::Value(value_or_undefined(value))),
-        }
+        Ok(value_or_undefined(self.resume(part)?))
     }
 
     /// Begins a part later in a step: before a literal or a name the step ends, and for any other a frame is made.
-    pub fn begin_part(&mut self, part: &Shared<Tree>) -> Result<Next, AllocError>
-        ensures { IfOk result (λ next. BeginsPart part.now self.old next self.new) }
+    pub fn begin_part(&mut self, part: &Shared<Tree>) -> Result<Next, Over>
+        ensures { Comes result (λ next. BeginsPart part.now self.old next self.new) }
     {
         match operand_in(part.get())? {
             Some(_) => Ok(Next::Going),
-            None => self.push_part(part),
+            None => Ok(self.push_part(part)?),
         }
     }
 
     /// Pays the step of the tree of the frame on top, which begins at this place, counted in code units, and begins its first part:
     /// the frame is then at stage 1.
-    pub fn begin_with(&mut self, at: usize, part: &Shared<Tree>) -> Result<Next, AllocError>
-        ensures { IfOk result (λ next. BeginsWith at part.now self.old next self.new) }
+    pub fn begin_with(&mut self, at: usize, part: &Shared<Tree>) -> Result<Next, Over>
+        ensures { Comes result (λ next. BeginsWith at part.now self.old next self.new) }
     {
-        match self.begin(at) {
-            Some(stop) => Ok(stop),
-            None => {
-                self.set_stage(1);
-                self.begin_part(part)
-            }
-        }
+        self.begin(at)?;
+        self.set_stage(1);
+        self.begin_part(part)
     }
 
     /// The frame on top ends.
@@ -241,30 +233,68 @@ impl State {
         self.end(Completion::Abrupt(Abrupt::Throw(Value::Undefined)))
     }
 
-    /// The value that an operator came to. A string of n code units is made for n / 256 steps, rounded down: where that is more than
-    /// none, the string is kept and the step ends, and the frame waits at this stage, at which it is paid.
-    pub fn operated(&mut self, came: Operated, stage: u32) -> Result<Valued, AllocError>
-        ensures { IfOk result (λ r. Operates stage (operated_of came) self.old r self.new) }
+    /// The value that the frame on top keeps, which is taken away; undefined where it keeps none.
+    pub fn take_value(&mut self) -> Value
+        ensures value { value_of result ≡ kept_in self.old }
+        ensures rest { self.new ≡ keeping None self.old }
+    {
+        value_or_undefined(self.take_kept())
+    }
+
+    /// The value that an operator came to.
+    pub fn operated(&mut self, came: Operated, stage: u32) -> Result<Value, Over>
+        ensures { Operates stage (operated_of came) self.old result self.new }
     {
         match came {
-            Operated::Gives(value) => Ok(Valued::Value(value)),
-            Operated::Halts(stop) => Ok(Valued::Left(Next::Halt(StopName::Number(stop)))),
-            Operated::Rejects => Ok(Valued::Left(self.throw())),
+            Operated::Gives(value) => Ok(value),
+            Operated::Halts(stop) => Err(Over::Next(Next::Halt(StopName::Number(stop)))),
+            Operated::Rejects => Err(Over::Next(self.throw())),
             Operated::Joins(left, right) => self.joined(&left, &right, stage),
         }
     }
 
-    /// The string that the frame on top keeps, once it is paid. Some other value costs nothing.
-    pub fn pay_kept(&mut self) -> Valued
+    /// Both strings as one.
+    fn joined(&mut self, left: &Str, right: &Str, stage: u32) -> Result<Value, Over>
+        ensures { Operates stage (Joins left.now right.now) self.old result self.new }
+    {
+        if left.units().len() + right.units().len() > MAX_UNITS {
+            return Err(Over::Next(Next::Halt(StopName::StringLength)));
+        }
+        let text = join(self.alloc(), left, right)?;
+        Ok(Value::Str(self.made(text, stage)?))
+    }
+
+    /// A string that was made. One of n code units is made for n / 256 steps, rounded down: where that is more than none, the string
+    /// is kept and the step ends, and the frame waits at this stage, at which it is paid.
+    pub fn made(&mut self, text: Str, stage: u32) -> Result<Str, Next>
+        ensures { Makes stage text self.old result self.new }
+    {
+        match string_cost(text.units().len()) {
+            None => Ok(text),
+            Some(_) => {
+                self.set_stage(stage);
+                self.keep(Value::Str(text));
+                Err(Next::Going)
+            }
+        }
+    }
+
+    /// Pays for a string of so many code units, for which the frame on top waits. For one that costs nothing none waits.
+    pub fn pay_for(&mut self, units: usize) -> Result<(), Next>
+        ensures { PaysFor units self.old result self.new }
+    {
+        match string_cost(units) {
+            None => Err(self.throw()),
+            Some(more) => self.pay(more + 1),
+        }
+    }
+
+    /// The string that the frame on top keeps, once it is paid.
+    pub fn pay_kept(&mut self) -> Result<Value, Next>
         ensures { PaysKept self.old result self.new }
     {
-        match string_cost(units_in(&self.top().value)) {
-            None => Valued::Value(value_or_undefined(self.take_kept())),
-            Some(more) => match self.pay(more + 1) {
-                Some(next) => Valued::Left(next),
-                None => Valued::Value(value_or_undefined(self.take_kept())),
-            },
-        }
+        self.pay_for(units_in(&self.top().value))?;
+        Ok(self.take_value())
     }
 
     /// The frame on top goes on as a call of a built-in function, with the list that it keeps as the arguments.
@@ -273,35 +303,9 @@ impl State {
         ensures state { self.new ≡ performing function self.old }
     {
         let arguments = self.take_list();
-        let frame = Frame {
-            activity: Activity::BuiltIn(function),
-            source: 0,
-            stage: 0,
-            calls: self.top().calls,
-            value: None,
-            list: arguments,
-        };
-        self.replace_top(frame);
+        let call = Activity::BuiltIn(function);
+        self.replace_top(Frame::new(call, 0, self.top().calls, arguments));
         Next::Going
-    }
-
-    /// Both strings as one.
-    fn joined(&mut self, left: &Str, right: &Str, stage: u32) -> Result<Valued, AllocError>
-        ensures { IfOk result (λ r. Operates stage (Joins left.now right.now) self.old r self.new) }
-    {
-        let units = left.units().len() + right.units().len();
-        if units > MAX_UNITS {
-            return Ok(Valued::Left(Next::Halt(StopName::StringLength)));
-        }
-        let text = join(self.alloc(), left, right)?;
-        match string_cost(units) {
-            None => Ok(Valued::Value(Value::Str(text))),
-            Some(_) => {
-                self.set_stage(stage);
-                self.keep(Value::Str(text));
-                Ok(Valued::Left(Next::Going))
-            }
-        }
     }
 }
 
@@ -336,8 +340,5 @@ fn units_in(value: &Option<Value>) -> usize
 fn join(alloc: Global, left: &Str, right: &Str) -> Result<Str, AllocError>
     ensures { IfOk result (λ s. s ≡ left.now ++ right.now) }
 {
-    match left.concat(alloc, right) {
-        Ok(text) => Ok(text),
-        Err(_) => Err(AllocError),
-    }
+    left.concat(alloc, right).map_err(|_| AllocError)
 }

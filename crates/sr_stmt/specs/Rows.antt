@@ -39,6 +39,10 @@ abbrev pub tree_or : Option Tree → Tree → Tree
 tree_or None body = body
 tree_or (Some t) body = t
 
+-- a loop with a condition and a body alone
+abbrev pub plain_loop : Tree → Tree → Loop
+plain_loop test body = record { test = Some test; update = None; body = body }
+
 -- the value of a loop after a turn, by how its body ended and the value before
 abbrev pub value_after : Option Value → Value → Value
 value_after w v = value_in (update_empty w (Some v))
@@ -115,11 +119,11 @@ module _ (s e : ℕ) where
 
   -- `do`: the body comes first
   abbrev pub do_loop : ℕ → Tree → Tree → Steps
-  do_loop at body test = begin s e at (loop (record { test = Some test; update = None; body = body }) Body (Simple Undefined))
+  do_loop at body test = begin s e at (loop (plain_loop test body) Body (Simple Undefined))
 
   -- `while`
   abbrev pub while_loop : ℕ → Tree → Tree → Steps
-  while_loop at test body = begin s e at (loop (record { test = Some test; update = None; body = body }) Test (Simple Undefined))
+  while_loop at test body = begin s e at (loop (plain_loop test body) Test (Simple Undefined))
 
   -- `for`: what comes first, and the loop
   abbrev pub for_first : Option Tree → Steps → Steps

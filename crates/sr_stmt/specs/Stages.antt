@@ -1,6 +1,6 @@
 -- A device of the proof: what a frame of a statement or a source stands for at each stage. At stage 0 it is the row. Nobody who reads the
 -- language needs this file.
-use Rattle.std.specs.Prelude.{ℕ, ◌/◌, zero, suc, List, [], ◌∷◌, Option, None, Some, drop}
+use Rattle.std.specs.Prelude.{ℕ, ◌/◌, zero, suc, Bool, true, false, List, [], ◌∷◌, Option, None, Some, drop}
 use Rattle.sr_ast.specs.declared.tree.Tree.{Tree}
 use Rattle.sr_ast.specs.declared.tree.Declaration.{Declaration, out-Declaration}
 use Rattle.sr_ast.specs.declared.tree.Element.TheOpen as layer
@@ -10,11 +10,12 @@ use Rattle.sr_ast.specs.declared.reading.Reading.TheVariants as reading
 use Rattle.sr_ast.specs.declared.reading.SourceCode.{SourceCode}
 use Rattle.sr_model.specs.Values.{Text, Value, Simple, Undefined}
 use Rattle.sr_model.specs.Outcomes.{Normal}
-use Rattle.sr_model.specs.Scripts.{Give, Pay}
-use Rattle.sr_state.specs.Work.{Steps, Loop}
+use Rattle.sr_model.specs.Scripts.{Give}
+use Rattle.sr_model.specs.Globals.{either}
+use Rattle.sr_state.specs.Work.{Steps, Place, Body, Loop}
 use Rattle.sr_state.specs.Step.{Given, At}
-use Rattle.sr_state.specs.Trees.{value_in, give_value, throw_error, evaluated_at, valued_at}
-use Rattle.sr_stmt.specs.Rows.{updated, put_then, anyway, at_test, tree_or, expression, declare, variables, statements, block, empty, chosen, choice, again, turned, tested, loop, do_loop, while_loop, for_loop, read_text, source}
+use Rattle.sr_state.specs.Trees.{value_in, give_value, throw_error, begin, evaluated_at, valued_at, paid_at}
+use Rattle.sr_stmt.specs.Rows.{updated, put_then, anyway, at_test, tree_or, plain_loop, expression, declare, variables, statements, block, empty, chosen, choice, again, turned, tested, loop, for_first, read_text, source}
 
 -- the declarations that are left, of which the first has a value and is under way
 abbrev pub declare_one_at : ℕ → Given → Text → Option Tree → Steps → Steps
@@ -34,14 +35,13 @@ abbrev pub branch_at : ℕ → Given → Option Tree → Steps
 branch_at s g None = give_value (Simple Undefined)
 branch_at s g (Some t) = valued_at s 0 g t give_value
 
--- a loop is at its condition at stage 1, at its body at stage 2, and after a turn at stage 3; `for` is at what comes first at stage 4.
--- The value so far is kept
-abbrev pub loop_at : Loop → (ℕ → Steps) → (ℕ → Given → Steps) → At
-loop_at l row first s zero kept g = row s
-loop_at l row first s (suc zero) kept g = valued_at s 0 g (tree_or l.test l.body) (tested s 0 l (value_in kept.value))
-loop_at l row first s (suc (suc zero)) kept g = evaluated_at s 0 g l.body (turned s 0 l (value_in kept.value))
-loop_at l row first s (suc (suc (suc zero))) kept g = evaluated_at s 0 g (tree_or l.update l.body) (anyway (again s 0 l (at_test l.test) (value_in kept.value)))
-loop_at l row first s (suc (suc (suc (suc n)))) kept g = first s g
+-- where the first turn of a loop begins
+abbrev pub first_place : Bool → Loop → Place
+first_place body_first l = either body_first Body (at_test l.test)
+
+abbrev pub first_at : ℕ → Given → Option Tree → Steps → Steps
+first_at s g None k = throw_error
+first_at s g (Some t) k = evaluated_at s 0 g t (anyway k)
 
 module _ (at : ℕ) where
   abbrev pub expression_at : Tree → At
@@ -68,18 +68,18 @@ module _ (at : ℕ) where
   choice_at c a b s (suc (suc zero)) kept g = branch_at s g (Some a)
   choice_at c a b s (suc (suc (suc n))) kept g = branch_at s g b
 
-  abbrev pub do_at : Tree → Tree → At
-  do_at body test = loop_at (record { test = Some test; update = None; body = body }) (λ s. do_loop s 0 at body test) (λ s g. throw_error)
+  -- a loop is at its condition at stage 1, at its body at stage 2, and after a turn at stage 3; at stage 4 it is at what comes before the
+  -- first turn. The value so far is kept
+  abbrev pub loop_at : Bool → Option Tree → Loop → At
+  loop_at b first l s zero kept g = begin s 0 at (for_first s 0 first (loop s 0 l (first_place b l) (Simple Undefined)))
+  loop_at b first l s (suc zero) kept g = valued_at s 0 g (tree_or l.test l.body) (tested s 0 l (value_in kept.value))
+  loop_at b first l s (suc (suc zero)) kept g = evaluated_at s 0 g l.body (turned s 0 l (value_in kept.value))
+  loop_at b first l s (suc (suc (suc zero))) kept g = evaluated_at s 0 g (tree_or l.update l.body) (anyway (again s 0 l (at_test l.test) (value_in kept.value)))
+  loop_at b first l s (suc (suc (suc (suc zero)))) kept g = first_at s g first (loop s 0 l (first_place b l) (Simple Undefined))
+  loop_at b first l s (suc (suc (suc (suc (suc n))))) kept g = throw_error
 
-  abbrev pub while_at : Tree → Tree → At
-  while_at test body = loop_at (record { test = Some test; update = None; body = body }) (λ s. while_loop s 0 at test body) (λ s g. throw_error)
-
-  abbrev pub first_at : Option Tree → Loop → ℕ → Given → Steps
-  first_at None l s g = throw_error
-  first_at (Some t) l s g = evaluated_at s 0 g t (anyway (loop s 0 l (at_test l.test) (Simple Undefined)))
-
-  abbrev pub for_at : Option Tree → Loop → At
-  for_at first l = loop_at l (λ s. for_loop s 0 at first l) (first_at first l)
+  abbrev pub while_at : Bool → Tree → Tree → At
+  while_at b test body = loop_at b None (plain_loop test body)
 
   abbrev pub layer_at : Layer → At
   layer_at (layer.Expression t) = expression_at t
@@ -88,9 +88,9 @@ module _ (at : ℕ) where
   layer_at (layer.Block ts) = block_at ts
   layer_at layer.Empty = empty_at
   layer_at (layer.If c a b) = choice_at c a b
-  layer_at (layer.Do body test) = do_at body test
-  layer_at (layer.While test body) = while_at test body
-  layer_at (layer.For first test update body) = for_at first (record { test = test; update = update; body = body })
+  layer_at (layer.Do body test) = while_at true test body
+  layer_at (layer.While test body) = while_at false test body
+  layer_at (layer.For first test update body) = loop_at false first (record { test = test; update = update; body = body })
   layer_at l = empty_at
 
 abbrev pub statement_at : Tree → At
@@ -100,11 +100,6 @@ statement_at t = layer_at t.from (layer_of t)
 abbrev pub script_at : Reading → ℕ → ℕ → Given → Option Value → Steps
 script_at (reading.Script x) s n g v = statements_at s g (drop n x.body) v
 script_at (reading.Refused e) s n g v = throw_error
-
--- a text that is to be paid, since it costs something
-abbrev pub paid_at : ℕ → Steps → Steps
-paid_at zero k = throw_error
-paid_at (suc c) k = Pay c k
 
 -- at stage 1 the text is to be paid, and at stage n + 2 the n-th statement is under way
 abbrev pub source_at : SourceCode → At

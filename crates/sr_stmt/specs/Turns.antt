@@ -1,40 +1,56 @@
 -- A device of the proof: what the calls that several statements use leave of a step.
-use Rattle.std.specs.Prelude.{◌≡◌, ◌⊎◌, ℕ, suc, Option, None, Some}
+use Rattle.std.specs.Prelude.{◌≡◌, ◌⊎◌, ℕ, suc, Bool, true, false, List, ◌∷◌, drop, Option, None, Some, Result, Ok, Err}
 use Rattle.std.specs.Option.{option_copied}
 use Rattle.sr_ast.specs.declared.tree.Tree.{Tree}
+use Rattle.sr_ast.specs.declared.tree.Declaration.{Declaration, out-Declaration}
+use Rattle.sr_ast.specs.Script.{Script}
+use Rattle.sr_ast.specs.declared.reading.Reading.{Reading}
+use Rattle.sr_ast.specs.declared.reading.Reading.TheVariants as reading
+use Rattle.sr_ast.specs.declared.refused.Refused.{Refused}
+use Rattle.sr_ast.specs.declared.refused.Refused.TheVariants as refused
 use Rattle.sr_value.specs.declared.value.Value.{Value}
+use Rattle.sr_model.specs.Values.{Object}
+use Rattle.sr_model.specs.Outcomes.{Normal}
+use Rattle.sr_model.specs.Scripts.{Give}
+use Rattle.sr_model.specs.Globals.{Error, accepted, error_made, next_object, next_source}
+use Rattle.sr_conv.specs.Plain.{value_of}
 use Rattle.sr_state.specs.Work.{Loop}
+use Rattle.sr_state.specs.declared.ends.Abrupt.TheVariants as abrupt
 use Rattle.sr_state.specs.declared.ends.Completion.TheVariants as completion
 use Rattle.sr_state.specs.declared.ends.Next.{Next}
-use Rattle.sr_state.specs.declared.parts.Resumed.TheVariants as resumed
-use Rattle.sr_state.specs.declared.parts.Valued.TheVariants as valued
-use Rattle.sr_state.specs.Held.{Held, begun_in, staged, keeping}
-use Rattle.sr_state.specs.Parts.{Paying, Resumes, ResumesValue, BeginsPart, EndsWith}
-use Rattle.sr_stmt.specs.declared.loops.LoopParts.{LoopParts}
+use Rattle.sr_state.specs.declared.ends.Next.TheVariants as next
+use Rattle.sr_state.specs.declared.ends.Over.{Over}
+use Rattle.sr_state.specs.declared.ends.Over.TheVariants as over
+use Rattle.sr_state.specs.declared.ends.StopName.TheVariants as stop
+use Rattle.sr_state.specs.Errors.{syntax_error}
+use Rattle.sr_state.specs.Held.{Held, realm_in, change_in, with_side, numbered, staged, keeping}
+use Rattle.sr_state.specs.Lists.{Here}
+use Rattle.sr_state.specs.Parts.{Resumes, ResumesValue, BeginsPart, EndsWith}
+use Rattle.sr_state.specs.Step.{At}
+use Rattle.sr_stmt.specs.declared.loops.Looping.{Looping}
+use Rattle.sr_stmt.specs.declared.variables.Initializer.{Initializer}
+use Rattle.sr_stmt.specs.Rows.{declare}
+use Rattle.sr_stmt.specs.Stages.{loop_at}
 
--- the parts of a loop
-abbrev pub loop_of : LoopParts → Loop
+-- the parts of a loop, and what a frame of it stands for
+abbrev pub loop_of : Looping → Loop
 loop_of p = record { test = option_copied p.test; update = option_copied p.update; body = p.body.now }
+
+abbrev pub turn_at : Looping → At
+turn_at p = loop_at p.at p.body_first (option_copied p.first) (loop_of p)
 
 -- a part by whose value the frame ends
 abbrev pub Gives : Tree → Held → Next → Held → Type 0
 Gives t old n new =
-    ResumesValue t old (valued.Left n) new
-    ⊎ ((w : Value) × (mid : Held) × ResumesValue t old (valued.Value w) mid × EndsWith (completion.Normal (Some w)) mid n new)
+    ResumesValue t old (Err (over.Next n)) new
+    ⊎ ((w : Value) × (mid : Held) × ResumesValue t old (Ok w) mid × EndsWith (completion.Normal (Some w)) mid n new)
 
 -- a part whose value is kept, where it has one
-abbrev pub Keeps : Tree → Held → Option Next → Held → Type 0
-Keeps t old (Some n) new = Resumes t old (resumed.Left n) new
-Keeps t old None new =
-    Resumes t old (resumed.Ended None) new
-    ⊎ ((v : Value) × (mid : Held) × Resumes t old (resumed.Ended (Some v)) mid × (new ≡ keeping (Some v) mid))
-
--- the charge of a loop, and its first part, at which the frame is at this stage and keeps no value
-abbrev pub BeginsLoop : ℕ → ℕ → Tree → Held → Next → Held → Type 0
-BeginsLoop at stage t old n new =
-    (let f = old.top in
-    Paying 1 (begun_in f.source at) old (Some n) new
-    ⊎ ((mid : Held) × Paying 1 (begun_in f.source at) old None mid × BeginsPart t (staged stage (keeping None mid)) n new))
+abbrev pub Keeps : Tree → Held → Result (Unit {0}) Over → Held → Type 0
+Keeps t old (Ok u) new =
+    Resumes t old (Ok None) new
+    ⊎ ((v : Value) × (mid : Held) × Resumes t old (Ok (Some v)) mid × (new ≡ keeping (Some v) mid))
+Keeps t old (Err e) new = Resumes t old (Err e) new
 
 -- the condition of a loop is next, or the body where it has none
 abbrev pub to_test : Option Tree → Tree → Held → Next → Held → Type 0
@@ -43,6 +59,11 @@ to_test None body old n new = BeginsPart body (staged 2 old) n new
 
 abbrev pub ToTest : Loop → Held → Next → Held → Type 0
 ToTest l old n new = to_test l.test l.body old n new
+
+-- the first turn of a loop is next
+abbrev pub BeginsTurns : Bool → Loop → Held → Next → Held → Type 0
+BeginsTurns true l old n new = BeginsPart l.body (staged 2 old) n new
+BeginsTurns false l old n new = ToTest l old n new
 
 -- the next statement, at which the frame is at this stage, or the end with the value so far
 abbrev pub Continues : ℕ → Option Tree → Held → Next → Held → Type 0
@@ -53,4 +74,50 @@ Continues stage None old n new = (let f = old.top in EndsWith (completion.Normal
 abbrev pub Statement : Option Tree → Option Tree → Held → Next → Held → Type 0
 Statement None next old n new = Continues 0 None old n new
 Statement (Some t) next old n new =
-    Keeps t old (Some n) new ⊎ ((mid : Held) × Keeps t old None mid × (let f = mid.top in Continues (suc f.stage) next mid n new))
+    Keeps t old (Err (over.Next n)) new ⊎ ((mid : Held) × Keeps t old (Ok tt) mid × (let f = mid.top in Continues (suc f.stage) next mid n new))
+
+-- the value of a declaration
+abbrev pub initial_of : Declaration → Option Tree
+initial_of d = (let o = out-Declaration d in o.value)
+
+-- the declarations from this place on begin with one that has this value
+abbrev pub HasValue : ℕ → List Declaration → Tree → Type 0
+HasValue place ds t = (d : Declaration) × (drop place ds ≡ d ∷ drop (suc place) ds) × (initial_of d ≡ Some t)
+
+-- those from a place on do what those from a later place on do, which begin with one that has a value; or there is none
+abbrev pub IsNext : ℕ → List Declaration → Option Initializer → Type 0
+IsNext from ds None = (s : ℕ) → declare s 0 (drop from ds) ≡ Give (Normal None)
+IsNext from ds (Some v) = HasValue v.place ds v.value.now × ((s : ℕ) → declare s 0 (drop from ds) ≡ declare s 0 (drop v.place ds))
+
+-- a value is next, or where there is none the end
+abbrev pub begins : Option Initializer → Held → Next → Held → Type 0
+begins None old n new = EndsWith (completion.Normal None) old n new
+begins (Some v) old n new = BeginsPart v.value.now (staged (suc v.place) old) n new
+
+-- the first value from a place on is next, or the end
+abbrev pub BeginsValue : ℕ → List Declaration → Held → Next → Held → Type 0
+BeginsValue from ds old n new = (found : Option Initializer) × IsNext from ds found × begins found old n new
+
+-- after a script is accepted
+abbrev pub accepted_in : Script → Held → Held
+accepted_in x h = numbered (next_source (realm_in h.side)) (with_side h (change_in (accepted x.names) h.side))
+
+-- a script is accepted, and its first statement is next
+abbrev pub Accepts : Script → Held → Next → Held → Type 0
+Accepts x old n new = (first : Option Tree) × Here 0 x.body first × Continues 2 first (keeping None (accepted_in x old)) n new
+
+-- an error is made and thrown
+abbrev pub Throws : Error → Held → Next → Held → Type 0
+Throws e old n new =
+    (v : Value) × (value_of v ≡ Object (next_object (realm_in old.side)))
+    × EndsWith (completion.Abrupt (abrupt.Throw v)) (with_side old (change_in (error_made e) old.side)) n new
+
+-- what is no script ends by a SyntaxError or by a stop
+abbrev pub Refuses : Refused → Held → Next → Held → Type 0
+Refuses (refused.Syntax at) old n new = Throws (syntax_error at) old n new
+Refuses (refused.Unsupported marker at) old n new = (n ≡ next.Halt (stop.Unsupported marker at)) × (new ≡ old)
+Refuses refused.TooDeep old n new = (n ≡ next.Halt stop.SyntaxDepth) × (new ≡ old)
+
+abbrev pub Reads : Reading → Held → Next → Held → Type 0
+Reads (reading.Script x) old n new = Accepts x old n new
+Reads (reading.Refused why) old n new = Refuses why old n new

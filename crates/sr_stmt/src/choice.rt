@@ -1,5 +1,5 @@
-ghost use Rattle.std.specs.Prelude.{IfOk};
 ghost use Rattle.std.specs.Option.{option_copied};
+ghost use Rattle.sr_state.specs.Ends.{Comes};
 ghost use Rattle.sr_state.specs.Step.{StepsWith};
 ghost use Rattle.sr_stmt.specs.Rows.{operation};
 ghost use Rattle.sr_stmt.specs.Stages.{choice_at};
@@ -8,18 +8,15 @@ ghost use Rattle.sr_stmt.specs.Turns.{Gives};
 use sr_ast::Tree;
 use sr_conv::to_boolean;
 use sr_shared::Shared;
-use sr_state::{Next, State, Valued};
+use sr_state::{Next, Over, State};
 use sr_value::Value;
-use std::alloc::AllocError;
 
 /// The statement that was chosen; its empty value counts as undefined.
-fn branch(state: &mut State, part: &Shared<Tree>) -> Result<Next, AllocError>
-    ensures { IfOk result (λ next. Gives part.now state.old next state.new) }
+fn branch(state: &mut State, part: &Shared<Tree>) -> Result<Next, Over>
+    ensures { Comes result (λ next. Gives part.now state.old next state.new) }
 {
-    match state.resume_value(part)? {
-        Valued::Left(next) => Ok(next),
-        Valued::Value(value) => Ok(state.give(value)),
-    }
+    let value = state.resume_value(part)?;
+    Ok(state.give(value))
 }
 
 /// `if` (ECMA-262 14.6): the condition, and the statement that it chooses.
@@ -29,14 +26,14 @@ pub fn choice(
     test: &Shared<Tree>,
     yes: &Shared<Tree>,
     no: Option<&Shared<Tree>>,
-) -> Result<Next, AllocError>
-    ensures { IfOk result (λ next. StepsWith operation (choice_at at test.now yes.now (option_copied no.entry)) state.old next state.new) }
+) -> Result<Next, Over>
+    ensures { Comes result (λ next. StepsWith operation (choice_at at test.now yes.now (option_copied no.entry)) state.old next state.new) }
 {
     match state.stage() {
         0 => state.begin_with(at, test),
-        1 => match state.resume_value(test)? {
-            Valued::Left(next) => Ok(next),
-            Valued::Value(x) => match no {
+        1 => {
+            let x = state.resume_value(test)?;
+            match no {
                 _ if to_boolean(&x) => {
                     state.set_stage(2);
                     state.begin_part(yes)
@@ -46,8 +43,8 @@ pub fn choice(
                     state.begin_part(no)
                 }
                 None => Ok(state.give(Value::Undefined)),
-            },
-        },
+            }
+        }
         2 => branch(state, yes),
         _ => match no {
             Some(no) => branch(state, no),

@@ -1,5 +1,6 @@
 ghost use Rattle.std.specs.Prelude.{◌≡◌, IfOk};
 ghost use Rattle.sr_ast.specs.declared.tree.Node.{out-Node};
+ghost use Rattle.sr_state.specs.Ends.{Comes};
 ghost use Rattle.sr_state.specs.Step.{StepsWith};
 ghost use Rattle.sr_stmt.specs.Rows as rows;
 ghost use Rattle.sr_stmt.specs.Rows.{operation};
@@ -7,18 +8,17 @@ ghost use Rattle.sr_stmt.specs.Stages.{statement_at};
 
 use crate::choice::choice;
 use crate::lists::block;
-use crate::loops::{LoopParts, do_loop, for_loop, while_loop};
+use crate::loops::{Looping, turn, while_loop};
 use crate::simple::{empty, expression};
 use crate::variables::variables;
 use sr_ast::{Node, Tree};
-use sr_state::{Next, State};
+use sr_state::{Next, Over, State};
 use std::alloc::AllocError;
 
-/// A step of the frame on top, which carries out this statement (ECMA-262 14). A tree that is no statement that is built counts as
-/// the empty statement.
+/// A statement, by its kind (ECMA-262 14). A tree that is no statement that is built counts as the empty statement.
 #[tactic(auto, using(crate::proofs::Layers::by_other))]
-pub fn step(state: &mut State, tree: &Tree) -> Result<Next, AllocError>
-    ensures { IfOk result (λ next. StepsWith operation (statement_at tree.now) state.old next state.new) }
+fn statement(state: &mut State, tree: &Tree) -> Result<Next, Over>
+    ensures { Comes result (λ next. StepsWith operation (statement_at tree.now) state.old next state.new) }
 {
     let at = tree.from;
     match &tree.node {
@@ -27,20 +27,31 @@ pub fn step(state: &mut State, tree: &Tree) -> Result<Next, AllocError>
         Node::Var(declarations) => variables(state, at, declarations),
         Node::Block(statements) => block(state, at, statements),
         Node::If(test, yes, no) => choice(state, at, test, yes, no.as_ref()),
-        Node::Do(body, test) => do_loop(state, at, body, test),
-        Node::While(test, body) => while_loop(state, at, test, body),
-        Node::For(first, test, update, body) => for_loop(
-            state,
-            at,
-            first.as_ref(),
-            LoopParts {
+        Node::Do(body, test) => while_loop(state, at, true, test, body),
+        Node::While(test, body) => while_loop(state, at, false, test, body),
+        Node::For(first, test, update, body) => {
+            let looping = Looping {
+                at,
+                body_first: false,
+                first: first.as_ref(),
                 test: test.as_ref(),
                 update: update.as_ref(),
                 body,
-            },
-        ),
-        Node::Empty => Ok(empty(state, at)),
-        _ => Ok(empty(state, at)),
+            };
+            turn(state, looping)
+        }
+        Node::Empty => empty(state, at),
+        _ => empty(state, at),
+    }
+}
+
+/// A step of the frame on top, which carries out this statement.
+pub fn step(state: &mut State, tree: &Tree) -> Result<Next, AllocError>
+    ensures { IfOk result (λ next. StepsWith operation (statement_at tree.now) state.old next state.new) }
+{
+    match statement(state, tree) {
+        Ok(next) | Err(Over::Next(next)) => Ok(next),
+        Err(Over::Memory) => Err(AllocError),
     }
 }
 

@@ -9,14 +9,10 @@ mod kinds;
 mod lists;
 /// Loops.
 mod loops;
-/// How far lists are carried out.
-mod places;
 /// Sources.
 mod scripts;
 /// Statements without statements in them.
 mod simple;
-/// What the arms have in common.
-mod turns;
 /// Declarations of `var`.
 mod variables;
 

@@ -1,25 +1,35 @@
-ghost use Rattle.std.specs.Prelude.{IfOk};
 ghost use Rattle.std.specs.Option.{option_copied};
+ghost use Rattle.sr_state.specs.Ends.{Comes};
 ghost use Rattle.sr_state.specs.Step.{StepsWith};
 ghost use Rattle.sr_stmt.specs.Rows.{operation};
 ghost use Rattle.sr_stmt.specs.Stages.{block_at};
-ghost use Rattle.sr_stmt.specs.Turns.{Continues, Statement};
+ghost use Rattle.sr_stmt.specs.Turns.{Continues, Keeps, Statement};
 
-use crate::places::{after, before, here};
-use crate::turns::keep_end;
 use sqlite_items::Items;
 use sr_ast::Tree;
 use sr_shared::Shared;
-use sr_state::{Completion, Next, State};
-use std::alloc::AllocError;
+use sr_state::{Completion, Next, Over, State, after, before, here};
+
+/// The end of a part as the step begins: its value is kept, where it has one.
+pub fn keep_end(state: &mut State, part: &Shared<Tree>) -> Result<(), Over>
+    ensures { Keeps part.now state.old result state.new }
+{
+    match state.resume(part)? {
+        None => Ok(()),
+        Some(value) => {
+            state.keep(value);
+            Ok(())
+        }
+    }
+}
 
 /// The next statement, at which the frame is at this stage; where there is none the frame ends with the value so far.
 pub fn begin_statement(
     state: &mut State,
     stage: u32,
     part: Option<&Shared<Tree>>,
-) -> Result<Next, AllocError>
-    ensures { IfOk result (λ next. Continues stage (option_copied part.entry) state.old next state.new) }
+) -> Result<Next, Over>
+    ensures { Comes result (λ next. Continues stage (option_copied part.entry) state.old next state.new) }
 {
     match part {
         Some(part) => {
@@ -38,18 +48,16 @@ pub fn statement(
     state: &mut State,
     here: Option<&Shared<Tree>>,
     next: Option<&Shared<Tree>>,
-) -> Result<Next, AllocError>
-    ensures { IfOk result (λ after. Statement (option_copied here.entry) (option_copied next.entry) state.old after state.new) }
+) -> Result<Next, Over>
+    ensures { Comes result (λ after. Statement (option_copied here.entry) (option_copied next.entry) state.old after state.new) }
 {
     match here {
         None => begin_statement(state, 0, None),
-        Some(part) => match keep_end(state, part)? {
-            Some(stop) => Ok(stop),
-            None => {
-                let stage = after(state.stage())?;
-                begin_statement(state, stage, next)
-            }
-        },
+        Some(part) => {
+            keep_end(state, part)?;
+            let stage = after(state.stage())?;
+            begin_statement(state, stage, next)
+        }
     }
 }
 
@@ -58,17 +66,15 @@ pub fn block(
     state: &mut State,
     at: usize,
     statements: &Items<Shared<Tree>>,
-) -> Result<Next, AllocError>
-    ensures { IfOk result (λ next. StepsWith operation (block_at at statements.now) state.old next state.new) }
+) -> Result<Next, Over>
+    ensures { Comes result (λ next. StepsWith operation (block_at at statements.now) state.old next state.new) }
 {
     match before(state.stage()) {
-        None => match state.begin(at) {
-            Some(stop) => Ok(stop),
-            None => {
-                state.take_kept();
-                begin_statement(state, 1, here(statements, 0))
-            }
-        },
+        None => {
+            state.begin(at)?;
+            state.take_kept();
+            begin_statement(state, 1, here(statements, 0))
+        }
         Some(number) => statement(
             state,
             here(statements, number),

@@ -1,22 +1,29 @@
-ghost use Rattle.std.specs.Prelude.{◌≡◌, ◌<◌, ℕ, IfOk};
+ghost use Rattle.std.specs.Prelude.{◌≡◌, None};
 ghost use Rattle.std.specs.Option.{option_copied};
-ghost use Rattle.sr_state.specs.Work.{Steps};
-ghost use Rattle.sr_state.specs.Step.{Given, StepsWith};
+ghost use Rattle.sr_state.specs.Ends.{Comes};
+ghost use Rattle.sr_state.specs.Held.{keeping, staged};
+ghost use Rattle.sr_state.specs.Parts.{BeginsPart};
+ghost use Rattle.sr_state.specs.Step.{StepsWith};
 ghost use Rattle.sr_stmt.specs.Rows.{operation};
 ghost use Rattle.sr_stmt.specs.Rows as rows;
-ghost use Rattle.sr_stmt.specs.Stages.{loop_at, do_at, while_at, for_at};
-ghost use Rattle.sr_stmt.specs.Turns.{loop_of, BeginsLoop, ToTest};
+ghost use Rattle.sr_stmt.specs.Stages.{while_at};
+ghost use Rattle.sr_stmt.specs.Turns.{loop_of, turn_at, BeginsTurns, ToTest};
 
-use crate::turns::keep_end;
+use crate::lists::keep_end;
 use sr_ast::Tree;
 use sr_conv::to_boolean;
 use sr_shared::Shared;
-use sr_state::{Next, Resumed, State, Valued, value_or_undefined};
-use std::alloc::AllocError;
+use sr_state::{Next, Over, State};
 
-/// The parts of a loop: the condition and the expression after each turn, where there are such, and the body.
+/// A loop that begins at a place, counted in code units.
 #[derive(Clone, Copy)]
-pub struct LoopParts<'a> {
+pub struct Looping<'a> {
+    /// The place.
+    pub at: usize,
+    /// Whether the body comes before the condition, as in `do`.
+    pub body_first: bool,
+    /// What comes before the first turn.
+    pub first: Option<&'a Shared<Tree>>,
     /// The condition.
     pub test: Option<&'a Shared<Tree>>,
     /// The expression after each turn.
@@ -31,7 +38,7 @@ const TEST: u32 = 1;
 const BODY: u32 = 2;
 /// The stage after a turn.
 const UPDATE: u32 = 3;
-/// The stage of `for` at what comes first.
+/// The stage at what comes before the first turn.
 const FIRST: u32 = 4;
 
 /// The tree of an optional part of a loop, or else the body.
@@ -44,184 +51,131 @@ fn tree_or<'a>(part: Option<&'a Shared<Tree>>, body: &'a Shared<Tree>) -> &'a Sh
     }
 }
 
-/// The condition is next, or the body where there is none.
-fn to_test(state: &mut State, parts: LoopParts<'_>) -> Result<Next, AllocError>
-    ensures { IfOk result (λ next. ToTest (loop_of parts.entry) state.old next state.new) }
+/// The body is next.
+fn to_body(state: &mut State, looping: Looping<'_>) -> Result<Next, Over>
+    ensures { Comes result (λ next. BeginsPart looping.entry.body.now (staged 2 state.old) next state.new) }
 {
-    match parts.test {
+    state.set_stage(BODY);
+    state.begin_part(looping.body)
+}
+
+/// The condition is next, or the body where there is none.
+fn to_test(state: &mut State, looping: Looping<'_>) -> Result<Next, Over>
+    ensures { Comes result (λ next. ToTest (loop_of looping.entry) state.old next state.new) }
+{
+    match looping.test {
+        None => to_body(state, looping),
         Some(test) => {
             state.set_stage(TEST);
             state.begin_part(test)
         }
-        None => {
-            state.set_stage(BODY);
-            state.begin_part(parts.body)
-        }
+    }
+}
+
+/// The first turn is next. The loop has no value so far.
+fn begin_turns(state: &mut State, looping: Looping<'_>) -> Result<Next, Over>
+    ensures { Comes result (λ next. BeginsTurns looping.entry.body_first (loop_of looping.entry) (keeping None state.old) next state.new) }
+{
+    state.take_kept();
+    if looping.body_first {
+        to_body(state, looping)
+    } else {
+        to_test(state, looping)
     }
 }
 
 /// A loop at its condition: where it holds the body is next, and else the loop ends with the value so far.
-fn at_test(state: &mut State, parts: LoopParts<'_>) -> Result<Next, AllocError>
+fn at_test(state: &mut State, looping: Looping<'_>) -> Result<Next, Over>
     requires { state.old.top.stage ≡ 1 }
-    ensures { IfOk result (λ next. (row : ℕ → Steps) (first : ℕ → Given → Steps)
-        → StepsWith operation (loop_at (loop_of parts.entry) row first) state.old next state.new) }
+    ensures { Comes result (λ next. StepsWith operation (turn_at looping.entry) state.old next state.new) }
 {
-    match state.resume_value(tree_or(parts.test, parts.body))? {
-        Valued::Left(next) => Ok(next),
-        Valued::Value(x) => {
-            if to_boolean(&x) {
-                state.set_stage(BODY);
-                state.begin_part(parts.body)
-            } else {
-                let value = value_or_undefined(state.take_kept());
-                Ok(state.give(value))
-            }
-        }
+    let x = state.resume_value(tree_or(looping.test, looping.body))?;
+    if to_boolean(&x) {
+        to_body(state, looping)
+    } else {
+        let value = state.take_value();
+        Ok(state.give(value))
     }
 }
 
 /// A loop at its body, whose value is kept, where it has one: the expression after each turn is next.
-fn at_body(state: &mut State, parts: LoopParts<'_>) -> Result<Next, AllocError>
+fn at_body(state: &mut State, looping: Looping<'_>) -> Result<Next, Over>
     requires { state.old.top.stage ≡ 2 }
-    ensures { IfOk result (λ next. (row : ℕ → Steps) (first : ℕ → Given → Steps)
-        → StepsWith operation (loop_at (loop_of parts.entry) row first) state.old next state.new) }
+    ensures { Comes result (λ next. StepsWith operation (turn_at looping.entry) state.old next state.new) }
 {
-    match keep_end(state, parts.body)? {
-        Some(next) => Ok(next),
-        None => match parts.update {
-            Some(update) => {
-                state.set_stage(UPDATE);
-                state.begin_part(update)
-            }
-            None => to_test(state, parts),
-        },
-    }
-}
-
-/// A loop after a turn: the condition is next.
-fn at_update(state: &mut State, parts: LoopParts<'_>) -> Result<Next, AllocError>
-    requires { state.old.top.stage ≡ 3 }
-    ensures { IfOk result (λ next. (row : ℕ → Steps) (first : ℕ → Given → Steps)
-        → StepsWith operation (loop_at (loop_of parts.entry) row first) state.old next state.new) }
-{
-    match state.resume(tree_or(parts.update, parts.body))? {
-        Resumed::Left(next) => Ok(next),
-        Resumed::Ended(_) => to_test(state, parts),
-    }
-}
-
-/// A loop after its beginning.
-fn turns(state: &mut State, parts: LoopParts<'_>) -> Result<Next, AllocError>
-    requires low { 0 < state.old.top.stage }
-    requires high { state.old.top.stage < 4 }
-    ensures { IfOk result (λ next. (row : ℕ → Steps) (first : ℕ → Given → Steps)
-        → StepsWith operation (loop_at (loop_of parts.entry) row first) state.old next state.new) }
-{
-    match state.stage() {
-        1 => at_test(state, parts),
-        2 => at_body(state, parts),
-        _ => at_update(state, parts),
-    }
-}
-
-/// Pays for a loop, which has no value so far, and begins it with this part, at this stage.
-fn begin_loop(
-    state: &mut State,
-    at: usize,
-    stage: u32,
-    part: &Shared<Tree>,
-) -> Result<Next, AllocError>
-    ensures { IfOk result (λ next. BeginsLoop at stage part.now state.old next state.new) }
-{
-    match state.begin(at) {
-        Some(stop) => Ok(stop),
-        None => {
-            state.take_kept();
-            state.set_stage(stage);
-            state.begin_part(part)
+    keep_end(state, looping.body)?;
+    match looping.update {
+        None => to_test(state, looping),
+        Some(update) => {
+            state.set_stage(UPDATE);
+            state.begin_part(update)
         }
     }
 }
 
-/// `do` (ECMA-262 14.7.2): the body comes first.
-pub fn do_loop<'a>(
-    state: &mut State,
-    at: usize,
-    body: &'a Shared<Tree>,
-    test: &'a Shared<Tree>,
-) -> Result<Next, AllocError>
-    ensures { IfOk result (λ next. StepsWith operation (do_at at body.now test.now) state.old next state.new) }
+/// A loop after a turn: the condition is next.
+fn at_update(state: &mut State, looping: Looping<'_>) -> Result<Next, Over>
+    requires { state.old.top.stage ≡ 3 }
+    ensures { Comes result (λ next. StepsWith operation (turn_at looping.entry) state.old next state.new) }
 {
-    match state.stage() {
-        0 => begin_loop(state, at, BODY, body),
-        TEST..=UPDATE => turns(
-            state,
-            LoopParts {
-                test: Some(test),
-                update: None,
-                body,
-            },
-        ),
-        _ => Ok(state.throw()),
+    state.resume(tree_or(looping.update, looping.body))?;
+    to_test(state, looping)
+}
+
+/// A loop at what comes before the first turn.
+fn at_first(state: &mut State, looping: Looping<'_>) -> Result<Next, Over>
+    requires { state.old.top.stage ≡ 4 }
+    ensures { Comes result (λ next. StepsWith operation (turn_at looping.entry) state.old next state.new) }
+{
+    match looping.first {
+        None => Ok(state.throw()),
+        Some(first) => {
+            state.resume(first)?;
+            begin_turns(state, looping)
+        }
     }
 }
 
-/// `while` (ECMA-262 14.7.3): the condition comes first.
-pub fn while_loop<'a>(
-    state: &mut State,
-    at: usize,
-    test: &'a Shared<Tree>,
-    body: &'a Shared<Tree>,
-) -> Result<Next, AllocError>
-    ensures { IfOk result (λ next. StepsWith operation (while_at at test.now body.now) state.old next state.new) }
+/// A loop (ECMA-262 14.7.2 to 14.7.4).
+pub fn turn(state: &mut State, looping: Looping<'_>) -> Result<Next, Over>
+    ensures { Comes result (λ next. StepsWith operation (turn_at looping.entry) state.old next state.new) }
 {
     match state.stage() {
-        0 => begin_loop(state, at, TEST, test),
-        TEST..=UPDATE => turns(
-            state,
-            LoopParts {
-                test: Some(test),
-                update: None,
-                body,
-            },
-        ),
-        _ => Ok(state.throw()),
-    }
-}
-
-/// `for` (ECMA-262 14.7.4): what comes first, and the loop.
-pub fn for_loop(
-    state: &mut State,
-    at: usize,
-    first: Option<&Shared<Tree>>,
-    parts: LoopParts<'_>,
-) -> Result<Next, AllocError>
-    ensures { IfOk result (λ next. StepsWith operation (for_at at (option_copied first.entry) (loop_of parts.entry)) state.old next state.new) }
-{
-    match state.stage() {
-        0 => match state.begin(at) {
-            Some(stop) => Ok(stop),
-            None => match first {
+        0 => {
+            state.begin(looping.at)?;
+            match looping.first {
+                None => begin_turns(state, looping),
                 Some(first) => {
                     state.set_stage(FIRST);
                     state.begin_part(first)
                 }
-                None => {
-                    state.take_kept();
-                    to_test(state, parts)
-                }
-            },
-        },
-        TEST..=UPDATE => turns(state, parts),
-        _ => match first {
-            None => Ok(state.throw()),
-            Some(first) => match state.resume(first)? {
-                Resumed::Left(next) => Ok(next),
-                Resumed::Ended(_) => {
-                    state.take_kept();
-                    to_test(state, parts)
-                }
-            },
-        },
+            }
+        }
+        1 => at_test(state, looping),
+        2 => at_body(state, looping),
+        3 => at_update(state, looping),
+        4 => at_first(state, looping),
+        _ => Ok(state.throw()),
     }
+}
+
+/// A loop with a condition and a body alone.
+pub fn while_loop<'a>(
+    state: &mut State,
+    at: usize,
+    body_first: bool,
+    test: &'a Shared<Tree>,
+    body: &'a Shared<Tree>,
+) -> Result<Next, Over>
+    ensures { Comes result (λ next. StepsWith operation (while_at at body_first test.now body.now) state.old next state.new) }
+{
+    let looping = Looping {
+        at,
+        body_first,
+        first: None,
+        test: Some(test),
+        update: None,
+        body,
+    };
+    turn(state, looping)
 }

@@ -1,18 +1,32 @@
 ghost use Rattle.std.specs.Prelude.{◌≡◌, IfOk};
+ghost use Rattle.std.specs.Option.{option_copied};
+ghost use Rattle.sr_state.specs.Ends.{Comes};
+ghost use Rattle.sr_state.specs.Lists.{Here};
 ghost use Rattle.sr_state.specs.Step.{StepsAnywhere};
 ghost use Rattle.sr_stmt.specs.Rows.{operation};
 ghost use Rattle.sr_stmt.specs.Stages.{source_at};
-ghost use Rattle.sr_stmt.specs.Reads.{Accepts, Refuses, Reads};
+ghost use Rattle.sr_stmt.specs.Turns.{Accepts, Refuses, Reads};
 
 use crate::lists::{begin_statement, statement};
-use crate::places::{after, before, statement_here};
-use sr_ast::{Reading, Refused, ScriptCode, SourceCode};
-use sr_state::{Abrupt, Completion, ErrorName, Next, State, StopName, string_cost, syntax_message};
+use sr_ast::{Reading, Refused, ScriptCode, SourceCode, Tree};
+use sr_shared::Shared;
+use sr_state::{
+    Abrupt, Completion, ErrorName, Next, Over, State, StopName, after, before, string_cost,
+    syntax_message,
+};
 use std::alloc::AllocError;
 
+/// The statement of a script of this number, from 0.
+#[tactic(auto, using(sr_state::proofs::Drops::here_some, sr_state::proofs::Drops::here_none))]
+fn statement_here(script: &ScriptCode, at: u32) -> Option<&Shared<Tree>>
+    ensures { Here at script.now.body (option_copied result) }
+{
+    script.statement(at as usize)
+}
+
 /// Accepts a script: its names are declared, and its first statement is next (ECMA-262 16.1.7).
-fn accept(state: &mut State, script: &ScriptCode) -> Result<Next, AllocError>
-    ensures { IfOk result (λ next. Accepts script.now state.old next state.new) }
+fn accept(state: &mut State, script: &ScriptCode) -> Result<Next, Over>
+    ensures { Comes result (λ next. Accepts script.now state.old next state.new) }
 {
     let number = state.accept(script)?;
     state.set_source(number);
@@ -21,8 +35,8 @@ fn accept(state: &mut State, script: &ScriptCode) -> Result<Next, AllocError>
 }
 
 /// Ends by a SyntaxError or by a stop.
-fn refuse(state: &mut State, why: Refused) -> Result<Next, AllocError>
-    ensures { IfOk result (λ next. Refuses why state.old next state.new) }
+fn refuse(state: &mut State, why: Refused) -> Result<Next, Over>
+    ensures { Comes result (λ next. Refuses why state.old next state.new) }
 {
     match why {
         Refused::Syntax(at) => {
@@ -36,8 +50,8 @@ fn refuse(state: &mut State, why: Refused) -> Result<Next, AllocError>
 }
 
 /// Reads a text, which is paid (ECMA-262 16.1.6).
-fn read(state: &mut State, source: &SourceCode) -> Result<Next, AllocError>
-    ensures { IfOk result (λ next. Reads source.now.reading state.old next state.new) }
+fn read(state: &mut State, source: &SourceCode) -> Result<Next, Over>
+    ensures { Comes result (λ next. Reads source.now.reading state.old next state.new) }
 {
     match &source.reading {
         Reading::Script(script) => accept(state, script),
@@ -45,29 +59,26 @@ fn read(state: &mut State, source: &SourceCode) -> Result<Next, AllocError>
     }
 }
 
-/// A step of the frame on top, which carries out this source (ECMA-262 16.1).
-pub fn step_source(state: &mut State, source: &SourceCode) -> Result<Next, AllocError>
-    ensures { IfOk result (λ next. StepsAnywhere operation (source_at source.now) state.old next state.new) }
+/// A source (ECMA-262 16.1): it is paid, read and accepted, and its statements are carried out.
+fn source_step(state: &mut State, source: &SourceCode) -> Result<Next, Over>
+    ensures { Comes result (λ next. StepsAnywhere operation (source_at source.now) state.old next state.new) }
 {
     match before(state.stage()) {
-        None => match state.pay(1) {
-            Some(stop) => Ok(stop),
-            None => match string_cost(source.units) {
+        None => {
+            state.pay(1)?;
+            match string_cost(source.units) {
                 None => read(state, source),
                 Some(_) => {
                     state.set_stage(1);
                     Ok(Next::Going)
                 }
-            },
-        },
+            }
+        }
         Some(number) => match before(number) {
-            None => match string_cost(source.units) {
-                None => Ok(state.throw()),
-                Some(more) => match state.pay(more + 1) {
-                    Some(stop) => Ok(stop),
-                    None => read(state, source),
-                },
-            },
+            None => {
+                state.pay_for(source.units)?;
+                read(state, source)
+            }
             Some(number) => match &source.reading {
                 Reading::Refused(_) => Ok(state.throw()),
                 Reading::Script(script) => statement(
@@ -77,5 +88,15 @@ pub fn step_source(state: &mut State, source: &SourceCode) -> Result<Next, Alloc
                 ),
             },
         },
+    }
+}
+
+/// A step of the frame on top, which carries out this source.
+pub fn step_source(state: &mut State, source: &SourceCode) -> Result<Next, AllocError>
+    ensures { IfOk result (λ next. StepsAnywhere operation (source_at source.now) state.old next state.new) }
+{
+    match source_step(state, source) {
+        Ok(next) | Err(Over::Next(next)) => Ok(next),
+        Err(Over::Memory) => Err(AllocError),
     }
 }

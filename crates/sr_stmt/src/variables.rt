@@ -1,14 +1,14 @@
 ghost use Rattle.std.specs.Prelude.{IfOk};
+ghost use Rattle.sr_state.specs.Ends.{Comes};
 ghost use Rattle.sr_state.specs.Step.{StepsWith};
 ghost use Rattle.sr_stmt.specs.Rows.{operation};
 ghost use Rattle.sr_stmt.specs.Stages.{variables_at};
-ghost use Rattle.sr_stmt.specs.Initial.{IsNext, BeginsValue};
+ghost use Rattle.sr_stmt.specs.Turns.{IsNext, BeginsValue};
 
-use crate::places::{after, before, here};
 use sqlite_items::Items;
 use sr_ast::{Declaration, Tree};
 use sr_shared::Shared;
-use sr_state::{Completion, Next, State, Valued};
+use sr_state::{Completion, Next, Over, State, after, before, here};
 use std::alloc::AllocError;
 
 /// The value of a declaration.
@@ -45,8 +45,8 @@ fn begin_value(
     state: &mut State,
     declarations: &Items<Declaration>,
     from: u32,
-) -> Result<Next, AllocError>
-    ensures { IfOk result (λ next. BeginsValue from declarations.now state.old next state.new) }
+) -> Result<Next, Over>
+    ensures { Comes result (λ next. BeginsValue from declarations.now state.old next state.new) }
 {
     match next_initializer(declarations, from)? {
         None => Ok(state.end(Completion::Normal(None))),
@@ -62,25 +62,23 @@ pub fn variables(
     state: &mut State,
     at: usize,
     declarations: &Items<Declaration>,
-) -> Result<Next, AllocError>
-    ensures { IfOk result (λ next. StepsWith operation (variables_at at declarations.now) state.old next state.new) }
+) -> Result<Next, Over>
+    ensures { Comes result (λ next. StepsWith operation (variables_at at declarations.now) state.old next state.new) }
 {
     match before(state.stage()) {
-        None => match state.begin(at) {
-            Some(stop) => Ok(stop),
-            None => begin_value(state, declarations, 0),
-        },
+        None => {
+            state.begin(at)?;
+            begin_value(state, declarations, 0)
+        }
         Some(number) => match here(declarations, number) {
             None => Ok(state.end(Completion::Normal(None))),
             Some(declaration) => match &declaration.value {
                 None => Ok(state.throw()),
-                Some(value) => match state.resume_value(value)? {
-                    Valued::Left(next) => Ok(next),
-                    Valued::Value(value) => {
-                        state.assign(&declaration.name, value)?;
-                        begin_value(state, declarations, after(number)?)
-                    }
-                },
+                Some(part) => {
+                    let value = state.resume_value(part)?;
+                    state.assign(&declaration.name, value)?;
+                    begin_value(state, declarations, after(number)?)
+                }
             },
         },
     }
