@@ -6,7 +6,6 @@ use Rattle.sr_model.specs.Outcomes.{Stop}
 use Rattle.sr_model.specs.Scripts.{Halt, Pay}
 use Rattle.sr_conv.specs.declared.answers.Computed.{Computed}
 use Rattle.sr_conv.specs.declared.answers.Computed.TheVariants as computed
-use Rattle.sr_conv.specs.Plain.{value_of}
 use Rattle.sr_state.specs.declared.ends.Next.{Next}
 use Rattle.sr_state.specs.declared.ends.Next.TheVariants as next
 use Rattle.sr_state.specs.declared.ends.StopName.TheVariants as stop

@@ -1,15 +1,13 @@
-ghost use Rattle.std.specs.Prelude.{◌≡◌, IfOk};
+ghost use Rattle.std.specs.Prelude.{IfOk};
 ghost use Rattle.sr_state.specs.Ends.{Comes};
 ghost use Rattle.sr_state.specs.Step.{StepsBy};
 ghost use Rattle.sr_expr.specs.Stages.{expression_at};
 
 use crate::assign::assignment;
-use crate::basic::{literal, name, not_built};
-use crate::binary::operator;
+use crate::basic::{literal, name, not_built, sequence};
 use crate::call::linked;
 use crate::choice::{condition, logical};
-use crate::lists::sequence;
-use crate::unary::{prefix, update};
+use crate::operators::{operator, prefix, update};
 use sr_ast::{Node, Tree};
 use sr_state::{Next, Over, State};
 use sr_value::Value;

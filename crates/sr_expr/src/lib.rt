@@ -3,19 +3,15 @@
 
 /// Assignments.
 mod assign;
-/// Literals and names.
+/// Literals, names, and expressions in order.
 mod basic;
-/// Operators with both operands.
-mod binary;
 /// Calls.
 mod call;
 /// Conditions and logical operators.
 mod choice;
 /// The step of the frame on top, by the kind of its tree.
 mod kinds;
-/// Lists of expressions.
-mod lists;
-/// Operators before or after one operand.
-mod unary;
+/// Operators with one operand or two.
+mod operators;
 
 pub use kinds::step;

@@ -16,7 +16,7 @@ use sqlite_items::Items;
 use sr_ast::{Code, Node, Tree};
 use sr_conv::Operated;
 use sr_shared::Shared;
-use sr_text::Str;
+use sr_text::{MAX_UNITS, Str};
 use sr_value::Value;
 use std::alloc::{AllocError, Global};
 
@@ -311,9 +311,6 @@ impl State {
 
 /// How many calls may be active.
 const MAX_CALLS: u32 = 100_000;
-
-/// The most code units of a string.
-const MAX_UNITS: usize = 16_777_216;
 
 /// What a string of so many code units costs: one step more than this number, or none.
 pub fn string_cost(units: usize) -> Option<u64>

@@ -1,5 +1,5 @@
 ghost use Rattle.std.specs.Prelude.{◌≡◌, ◌∷◌, [], ◌+◌, ◌<◌, ◌^◌, suc, option_map, OnOk, IfOk};
-ghost use Rattle.sr_model.specs.Values.{Object, root};
+ghost use Rattle.sr_model.specs.Values.{Object};
 ghost use Rattle.sr_model.specs.Globals.{assigned, accepted, marked, error_made, error_in, global_value, next_object, next_source};
 ghost use Rattle.sr_conv.specs.Plain.{value_of, option_of};
 ghost use Rattle.sr_state.specs.Errors.{name_text, error_of};

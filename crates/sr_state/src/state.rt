@@ -1,10 +1,9 @@
-ghost use Rattle.std.specs.Prelude.{◌≡◌, ◌<◌, ◌∷◌, ◌++◌, [], suc, Some, None, length, slice_set, option_map, reverse, OnOk, IfOk, MatchOption};
+ghost use Rattle.std.specs.Prelude.{◌≡◌, ◌<◌, ◌∷◌, ◌++◌, [], suc, Some, None, length, slice_set, option_map, reverse, OnOk, IfOk};
 ghost use Rattle.sr_model.specs.Values.{Object};
 ghost use Rattle.sr_conv.specs.Plain.{value_of, option_of};
 ghost use Rattle.sr_model.specs.Globals.{assigned, accepted, error_made, error_in, global_value, next_object, next_source};
 ghost use Rattle.sr_state.specs.Errors.{name_text, error_of};
 ghost use Rattle.sr_state.specs.Held.{Charges, Begins, first, idle, with_side, line_in, change_in, realm_in, cut_in, answered, topped, staged, keeping, listing, numbered, deeper, above, below, is_idle};
-ghost use Rattle.sr_state.specs.Step.{kept_of};
 
 use crate::ends::{Answer, Charge, Next, StopName};
 use crate::errors::{ErrorName, ErrorObject};

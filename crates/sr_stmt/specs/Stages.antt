@@ -13,9 +13,11 @@ use Rattle.sr_model.specs.Outcomes.{Normal}
 use Rattle.sr_model.specs.Scripts.{Give}
 use Rattle.sr_model.specs.Globals.{either}
 use Rattle.sr_state.specs.Work.{Steps, Place, Body, Loop}
-use Rattle.sr_state.specs.Step.{Given, At}
+use Rattle.sr_state.specs.declared.ends.Next.{Next}
+use Rattle.sr_state.specs.Held.{Held}
+use Rattle.sr_state.specs.Step.{Given, At, StepsWith}
 use Rattle.sr_state.specs.Trees.{value_in, give_value, throw_error, begin, evaluated_at, valued_at, paid_at}
-use Rattle.sr_stmt.specs.Rows.{updated, put_then, anyway, at_test, tree_or, plain_loop, expression, declare, variables, statements, block, empty, chosen, choice, again, turned, tested, loop, for_first, read_text, source}
+use Rattle.sr_stmt.specs.Rows.{updated, put_then, anyway, at_test, tree_or, plain_loop, expression, declare, variables, statements, block, empty, chosen, choice, again, turned, tested, loop, for_first, read_text, operation, source}
 
 -- the declarations that are left, of which the first has a value and is under way
 abbrev pub declare_one_at : ℕ → Given → Text → Option Tree → Steps → Steps
@@ -106,3 +108,8 @@ abbrev pub source_at : SourceCode → At
 source_at x s zero kept g = source x
 source_at x s (suc zero) kept g = paid_at (x.units / 256) (read_text x.reading)
 source_at x s (suc (suc n)) kept g = script_at x.reading s n g kept.value
+
+-- from old, a step of a statement goes on with what at says, with loops as the further tasks. It is a function, so that the prover
+-- takes it as it stands where it knows of it already
+abbrev pub StepsOn : At → Held → Next → Held → Type 0
+StepsOn at old n new = (u : Unit {0}) → StepsWith operation at old n new

@@ -1,8 +1,6 @@
 ghost use Rattle.std.specs.Option.{option_copied};
 ghost use Rattle.sr_state.specs.Ends.{Comes};
-ghost use Rattle.sr_state.specs.Step.{StepsWith};
-ghost use Rattle.sr_stmt.specs.Rows.{operation};
-ghost use Rattle.sr_stmt.specs.Stages.{choice_at};
+ghost use Rattle.sr_stmt.specs.Stages.{StepsOn, choice_at};
 ghost use Rattle.sr_stmt.specs.Turns.{Gives};
 
 use sr_ast::Tree;
@@ -27,7 +25,7 @@ pub fn choice(
     yes: &Shared<Tree>,
     no: Option<&Shared<Tree>>,
 ) -> Result<Next, Over>
-    ensures { Comes result (λ next. StepsWith operation (choice_at at test.now yes.now (option_copied no.entry)) state.old next state.new) }
+    ensures { Comes result (λ next. StepsOn (choice_at at test.now yes.now (option_copied no.entry)) state.old next state.new) }
 {
     match state.stage() {
         0 => state.begin_with(at, test),

@@ -4,7 +4,7 @@ ghost use Rattle.sr_state.specs.Ends.{Comes};
 ghost use Rattle.sr_state.specs.Step.{StepsWith};
 ghost use Rattle.sr_stmt.specs.Rows as rows;
 ghost use Rattle.sr_stmt.specs.Rows.{operation};
-ghost use Rattle.sr_stmt.specs.Stages.{statement_at};
+ghost use Rattle.sr_stmt.specs.Stages.{StepsOn, statement_at};
 
 use crate::choice::choice;
 use crate::lists::block;
@@ -16,9 +16,8 @@ use sr_state::{Next, Over, State};
 use std::alloc::AllocError;
 
 /// A statement, by its kind (ECMA-262 14). A tree that is no statement that is built counts as the empty statement.
-#[tactic(auto, using(crate::proofs::Layers::by_other))]
 fn statement(state: &mut State, tree: &Tree) -> Result<Next, Over>
-    ensures { Comes result (λ next. StepsWith operation (statement_at tree.now) state.old next state.new) }
+    ensures { Comes result (λ next. StepsOn (statement_at tree.now) state.old next state.new) }
 {
     let at = tree.from;
     match &tree.node {

@@ -1,8 +1,6 @@
 ghost use Rattle.std.specs.Option.{option_copied};
 ghost use Rattle.sr_state.specs.Ends.{Comes};
-ghost use Rattle.sr_state.specs.Step.{StepsWith};
-ghost use Rattle.sr_stmt.specs.Rows.{operation};
-ghost use Rattle.sr_stmt.specs.Stages.{block_at};
+ghost use Rattle.sr_stmt.specs.Stages.{StepsOn, block_at};
 ghost use Rattle.sr_stmt.specs.Turns.{Continues, Keeps, Statement};
 
 use sqlite_items::Items;
@@ -62,12 +60,8 @@ pub fn statement(
 }
 
 /// A block (ECMA-262 14.2).
-pub fn block(
-    state: &mut State,
-    at: usize,
-    statements: &Items<Shared<Tree>>,
-) -> Result<Next, Over>
-    ensures { Comes result (λ next. StepsWith operation (block_at at statements.now) state.old next state.new) }
+pub fn block(state: &mut State, at: usize, statements: &Items<Shared<Tree>>) -> Result<Next, Over>
+    ensures { Comes result (λ next. StepsOn (block_at at statements.now) state.old next state.new) }
 {
     match before(state.stage()) {
         None => {

@@ -3,10 +3,8 @@ ghost use Rattle.std.specs.Option.{option_copied};
 ghost use Rattle.sr_state.specs.Ends.{Comes};
 ghost use Rattle.sr_state.specs.Held.{keeping, staged};
 ghost use Rattle.sr_state.specs.Parts.{BeginsPart};
-ghost use Rattle.sr_state.specs.Step.{StepsWith};
-ghost use Rattle.sr_stmt.specs.Rows.{operation};
 ghost use Rattle.sr_stmt.specs.Rows as rows;
-ghost use Rattle.sr_stmt.specs.Stages.{while_at};
+ghost use Rattle.sr_stmt.specs.Stages.{StepsOn, while_at};
 ghost use Rattle.sr_stmt.specs.Turns.{loop_of, turn_at, BeginsTurns, ToTest};
 
 use crate::lists::keep_end;
@@ -87,7 +85,7 @@ fn begin_turns(state: &mut State, looping: Looping<'_>) -> Result<Next, Over>
 /// A loop at its condition: where it holds the body is next, and else the loop ends with the value so far.
 fn at_test(state: &mut State, looping: Looping<'_>) -> Result<Next, Over>
     requires { state.old.top.stage ≡ 1 }
-    ensures { Comes result (λ next. StepsWith operation (turn_at looping.entry) state.old next state.new) }
+    ensures { Comes result (λ next. StepsOn (turn_at looping.entry) state.old next state.new) }
 {
     let x = state.resume_value(tree_or(looping.test, looping.body))?;
     if to_boolean(&x) {
@@ -101,7 +99,7 @@ fn at_test(state: &mut State, looping: Looping<'_>) -> Result<Next, Over>
 /// A loop at its body, whose value is kept, where it has one: the expression after each turn is next.
 fn at_body(state: &mut State, looping: Looping<'_>) -> Result<Next, Over>
     requires { state.old.top.stage ≡ 2 }
-    ensures { Comes result (λ next. StepsWith operation (turn_at looping.entry) state.old next state.new) }
+    ensures { Comes result (λ next. StepsOn (turn_at looping.entry) state.old next state.new) }
 {
     keep_end(state, looping.body)?;
     match looping.update {
@@ -116,7 +114,7 @@ fn at_body(state: &mut State, looping: Looping<'_>) -> Result<Next, Over>
 /// A loop after a turn: the condition is next.
 fn at_update(state: &mut State, looping: Looping<'_>) -> Result<Next, Over>
     requires { state.old.top.stage ≡ 3 }
-    ensures { Comes result (λ next. StepsWith operation (turn_at looping.entry) state.old next state.new) }
+    ensures { Comes result (λ next. StepsOn (turn_at looping.entry) state.old next state.new) }
 {
     state.resume(tree_or(looping.update, looping.body))?;
     to_test(state, looping)
@@ -125,7 +123,7 @@ fn at_update(state: &mut State, looping: Looping<'_>) -> Result<Next, Over>
 /// A loop at what comes before the first turn.
 fn at_first(state: &mut State, looping: Looping<'_>) -> Result<Next, Over>
     requires { state.old.top.stage ≡ 4 }
-    ensures { Comes result (λ next. StepsWith operation (turn_at looping.entry) state.old next state.new) }
+    ensures { Comes result (λ next. StepsOn (turn_at looping.entry) state.old next state.new) }
 {
     match looping.first {
         None => Ok(state.throw()),
@@ -138,7 +136,7 @@ fn at_first(state: &mut State, looping: Looping<'_>) -> Result<Next, Over>
 
 /// A loop (ECMA-262 14.7.2 to 14.7.4).
 pub fn turn(state: &mut State, looping: Looping<'_>) -> Result<Next, Over>
-    ensures { Comes result (λ next. StepsWith operation (turn_at looping.entry) state.old next state.new) }
+    ensures { Comes result (λ next. StepsOn (turn_at looping.entry) state.old next state.new) }
 {
     match state.stage() {
         0 => {
@@ -167,7 +165,7 @@ pub fn while_loop<'a>(
     test: &'a Shared<Tree>,
     body: &'a Shared<Tree>,
 ) -> Result<Next, Over>
-    ensures { Comes result (λ next. StepsWith operation (while_at at body_first test.now body.now) state.old next state.new) }
+    ensures { Comes result (λ next. StepsOn (while_at at body_first test.now body.now) state.old next state.new) }
 {
     let looping = Looping {
         at,

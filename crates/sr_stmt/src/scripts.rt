@@ -1,4 +1,4 @@
-ghost use Rattle.std.specs.Prelude.{◌≡◌, IfOk};
+ghost use Rattle.std.specs.Prelude.{IfOk};
 ghost use Rattle.std.specs.Option.{option_copied};
 ghost use Rattle.sr_state.specs.Ends.{Comes};
 ghost use Rattle.sr_state.specs.Lists.{Here};

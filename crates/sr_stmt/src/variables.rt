@@ -1,8 +1,6 @@
 ghost use Rattle.std.specs.Prelude.{IfOk};
 ghost use Rattle.sr_state.specs.Ends.{Comes};
-ghost use Rattle.sr_state.specs.Step.{StepsWith};
-ghost use Rattle.sr_stmt.specs.Rows.{operation};
-ghost use Rattle.sr_stmt.specs.Stages.{variables_at};
+ghost use Rattle.sr_stmt.specs.Stages.{StepsOn, variables_at};
 ghost use Rattle.sr_stmt.specs.Turns.{IsNext, BeginsValue};
 
 use sqlite_items::Items;
@@ -63,7 +61,7 @@ pub fn variables(
     at: usize,
     declarations: &Items<Declaration>,
 ) -> Result<Next, Over>
-    ensures { Comes result (λ next. StepsWith operation (variables_at at declarations.now) state.old next state.new) }
+    ensures { Comes result (λ next. StepsOn (variables_at at declarations.now) state.old next state.new) }
 {
     match before(state.stage()) {
         None => {

@@ -1,5 +1,5 @@
 use Rattle.std.proofs.Common.{rules}
-use Rattle.sr_stmt.proofs.Layers.{comes}
+use Rattle.sr_stmt.proofs.Results.{comes}
 use Rattle.sr_stmt.proofs.variables.variables.Goals as goal
 
 pub returns-in_ok-after-in-Some-value : goal.returns-in_ok-after-in-Some-value

@@ -1,19 +1,68 @@
-ghost use Rattle.std.specs.Prelude.{◌≡◌};
 ghost use Rattle.sr_state.specs.Ends.{Comes};
 ghost use Rattle.sr_state.specs.Step.{StepsBy};
-ghost use Rattle.sr_expr.specs.Rows as rows;
-ghost use Rattle.sr_expr.specs.Stages.{unary_at, prefix_at, update_at};
+ghost use Rattle.sr_expr.specs.Stages.{binary_at, operator_at, unary_at, prefix_at, update_at};
 
 use crate::assign::put_and_give;
 use crate::basic::not_built;
-use sr_ast::{Tree, UnaryOp, UpdateOp};
-use sr_conv::{Computed, operate_one, shown, step_number};
+use sr_ast::{BinaryOp, Tree, UnaryOp, UpdateOp};
+use sr_conv::{Computed, operate, operate_one, shown, step_number};
 use sr_shared::Shared;
-use sr_state::{Next, Over, State, StopName};
+use sr_state::{Next, Over, State, StopName, before};
 use sr_value::Value;
 
+/// The stage at which a string that was joined is paid.
+const JOINED: u32 = 3;
+
+/// An operator with both operands, from left to right (ECMA-262 13.15.4).
+fn binary(
+    state: &mut State,
+    at: usize,
+    op: BinaryOp,
+    left: &Shared<Tree>,
+    right: &Shared<Tree>,
+) -> Result<Next, Over>
+    ensures { Comes result (λ next. StepsBy (binary_at at op left.now right.now) state.old next state.new) }
+{
+    match before(state.stage()) {
+        None => state.begin_with(at, left),
+        Some(0) => {
+            let x = state.resume_value(left)?;
+            state.keep(x);
+            state.set_stage(2);
+            state.begin_part(right)
+        }
+        Some(1) => {
+            let y = state.resume_value(right)?;
+            let x = state.take_value();
+            let came = operate(state.alloc(), op, &x, &y)?;
+            let value = state.operated(came, JOINED)?;
+            Ok(state.give(value))
+        }
+        Some(_) => {
+            let value = state.pay_kept()?;
+            Ok(state.give(value))
+        }
+    }
+}
+
+/// An operator between operands; one that is not built throws after its charge.
+pub fn operator(
+    state: &mut State,
+    at: usize,
+    op: BinaryOp,
+    left: &Shared<Tree>,
+    right: &Shared<Tree>,
+) -> Result<Next, Over>
+    ensures { Comes result (λ next. StepsBy (operator_at at op left.now right.now) state.old next state.new) }
+{
+    match op {
+        BinaryOp::InstanceOf | BinaryOp::In => not_built(state, at),
+        _ => binary(state, at, op, left, right),
+    }
+}
+
 /// The stage at which a string that was made is paid.
-const PAID: u32 = 2;
+const MADE: u32 = 2;
 
 /// An operator before its operand (ECMA-262 13.5).
 fn unary(state: &mut State, at: usize, op: UnaryOp, operand: &Shared<Tree>) -> Result<Next, Over>
@@ -24,23 +73,13 @@ fn unary(state: &mut State, at: usize, op: UnaryOp, operand: &Shared<Tree>) -> R
         1 => {
             let x = state.resume_value(operand)?;
             let came = operate_one(state.alloc(), op, &x)?;
-            let value = state.operated(came, PAID)?;
+            let value = state.operated(came, MADE)?;
             Ok(state.give(value))
         }
         _ => {
             let value = state.pay_kept()?;
             Ok(state.give(value))
         }
-    }
-}
-
-/// Whether an operator before an operand is built.
-fn is_prefix_built(op: UnaryOp) -> bool
-    ensures { result ≡ rows.is_prefix_built op }
-{
-    match op {
-        UnaryOp::Delete => false,
-        _ => true,
     }
 }
 
@@ -53,10 +92,9 @@ pub fn prefix(
 ) -> Result<Next, Over>
     ensures { Comes result (λ next. StepsBy (prefix_at at op operand.now) state.old next state.new) }
 {
-    if is_prefix_built(op) {
-        unary(state, at, op, operand)
-    } else {
-        not_built(state, at)
+    match op {
+        UnaryOp::Delete => not_built(state, at),
+        _ => unary(state, at, op, operand),
     }
 }
 
