@@ -72,20 +72,17 @@ abbrev pub is_prefix_built : UnaryOp → Bool
 is_prefix_built unary_op.Delete = false
 is_prefix_built op = true
 
--- 13.15.3: the operator between two values
-abbrev pub between : BinaryOp → Value → Value → Steps
-between op x y = operated (operate op x y) give_value
+-- 13.15.3: the operator between two values, and then k
+abbrev pub between : BinaryOp → (Value → Steps) → Value → Value → Steps
+between op k x y = operated (operate op x y) k
 
 -- 13.4: the old value, and the new one
 abbrev pub stored : UpdateOp → Text → Stepped → Steps
 stored op x n = put_and_give x (Simple (Num n.after)) (Simple (Num (shown op n.before n.after)))
 
--- 13.15.2: the target is given the value, or what an operator comes to between its old value and the right side
+-- 13.15.2: the target is given the value
 abbrev pub put : Tree → Value → Steps
 put t v = put_and_give (name_in t) v v
-
-abbrev pub put_between : BinaryOp → Tree → Value → Value → Steps
-put_between op t x y = operated (operate op x y) (put t)
 
 module _ (s e : ℕ) where
   -- a tree that is not built: after its charge an error is thrown. No script that is accepted has one
@@ -122,9 +119,12 @@ module _ (s e : ℕ) where
   abbrev pub logical : ℕ → LogicalOp → Tree → Tree → Steps
   logical at op a b = begin s e at (valued s e a (undecided op b))
 
-  -- 13.15.4: both operands from left to right, and the operator
+  -- 13.15.4: both operands from left to right, the operator, and then k
+  abbrev pub both : BinaryOp → Tree → Tree → (Value → Steps) → Steps
+  both op a b k = valued s e a (λ x. valued s e b (between op k x))
+
   abbrev pub binary : ℕ → BinaryOp → Tree → Tree → Steps
-  binary at op a b = begin s e at (valued s e a (λ x. valued s e b (between op x)))
+  binary at op a b = begin s e at (both op a b give_value)
 
   abbrev pub operator : ℕ → BinaryOp → Tree → Tree → Steps
   operator at op a b = either (is_built op) (binary at op a b) (not_built at)
@@ -146,7 +146,7 @@ module _ (s e : ℕ) where
 
   -- 13.15.2: an operator and `=`. The old value, the right side, and the operator
   abbrev pub compound_assignment : ℕ → BinaryOp → Tree → Tree → Steps
-  compound_assignment at op t b = begin s e at (valued s e t (λ x. valued s e b (put_between op t x)))
+  compound_assignment at op t b = begin s e at (both op t b (put t))
 
   -- 13.15.2: a logical operator and `=`. The old value, and where it does not decide the right side
   abbrev pub put_undecided : LogicalOp → Tree → Tree → Value → Steps

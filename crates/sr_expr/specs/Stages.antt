@@ -18,7 +18,7 @@ use Rattle.sr_conv.specs.Operators.{operate_one, step_number}
 use Rattle.sr_state.specs.Work.{Steps}
 use Rattle.sr_state.specs.Step.{Given, At}
 use Rattle.sr_state.specs.Trees.{value_in, give_value, throw_error, computed, operated, begin, valued, valued_at, kept_at}
-use Rattle.sr_expr.specs.Rows.{expression_of, name_in, is_built, is_prefix_built, between, stored, put, put_between, not_built, literal, name, in_order, sequence, chosen, condition, undecided, logical, binary, unary, update, plain_assignment, compound_assignment, put_undecided, logical_assignment, arguments, call}
+use Rattle.sr_expr.specs.Rows.{expression_of, name_in, is_built, is_prefix_built, between, stored, put, not_built, literal, name, in_order, sequence, chosen, condition, undecided, logical, both, unary, update, plain_assignment, put_undecided, logical_assignment, arguments, call}
 
 module _ (at : ℕ) where
   abbrev pub not_built_at : At
@@ -51,11 +51,14 @@ module _ (at : ℕ) where
   logical_at op a b s (suc n) kept g = valued_at s 0 g a (undecided s 0 op b)
 
   -- at the left operand, at the right one, and where a string that was joined is paid
+  abbrev pub both_at : BinaryOp → Tree → Tree → (Value → Steps) → At
+  both_at op a b k s zero kept g = begin s 0 at (both s 0 op a b k)
+  both_at op a b k s (suc zero) kept g = valued_at s 0 g a (λ x. valued s 0 b (between op k x))
+  both_at op a b k s (suc (suc zero)) kept g = valued_at s 0 g b (between op k (value_in kept.value))
+  both_at op a b k s (suc (suc (suc n))) kept g = kept_at kept.value k
+
   abbrev pub binary_at : BinaryOp → Tree → Tree → At
-  binary_at op a b s zero kept g = binary s 0 at op a b
-  binary_at op a b s (suc zero) kept g = valued_at s 0 g a (λ x. valued s 0 b (between op x))
-  binary_at op a b s (suc (suc zero)) kept g = valued_at s 0 g b (between op (value_in kept.value))
-  binary_at op a b s (suc (suc (suc n))) kept g = kept_at kept.value give_value
+  binary_at op a b = both_at op a b give_value
 
   abbrev pub operator_at : BinaryOp → Tree → Tree → At
   operator_at op a b = either (is_built op) (binary_at op a b) not_built_at
@@ -79,12 +82,8 @@ module _ (at : ℕ) where
   plain_at t b s (suc zero) kept g = begin s 0 t.from (valued s 0 b (put t))
   plain_at t b s (suc (suc n)) kept g = valued_at s 0 g b (put t)
 
-  -- at the old value, at the right side, and where a string that was joined is paid
   abbrev pub compound_at : BinaryOp → Tree → Tree → At
-  compound_at op t b s zero kept g = compound_assignment s 0 at op t b
-  compound_at op t b s (suc zero) kept g = valued_at s 0 g t (λ x. valued s 0 b (put_between op t x))
-  compound_at op t b s (suc (suc zero)) kept g = valued_at s 0 g b (put_between op t (value_in kept.value))
-  compound_at op t b s (suc (suc (suc n))) kept g = kept_at kept.value (put t)
+  compound_at op t b = both_at op t b (put t)
 
   -- at the old value, and at the right side
   abbrev pub logical_assignment_at : LogicalOp → Tree → Tree → At

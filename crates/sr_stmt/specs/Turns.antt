@@ -25,7 +25,7 @@ use Rattle.sr_state.specs.declared.ends.StopName.TheVariants as stop
 use Rattle.sr_state.specs.Errors.{syntax_error}
 use Rattle.sr_state.specs.Held.{Held, realm_in, change_in, with_side, numbered, staged, keeping}
 use Rattle.sr_state.specs.Lists.{Here}
-use Rattle.sr_state.specs.Parts.{Resumes, ResumesValue, BeginsPart, EndsWith}
+use Rattle.sr_state.specs.Parts.{Resumes, BeginsPart, EndsWith}
 use Rattle.sr_state.specs.Step.{At}
 use Rattle.sr_stmt.specs.declared.loops.Looping.{Looping}
 use Rattle.sr_stmt.specs.declared.variables.Initializer.{Initializer}
@@ -38,12 +38,6 @@ loop_of p = record { test = option_copied p.test; update = option_copied p.updat
 
 abbrev pub turn_at : Looping → At
 turn_at p = loop_at p.at p.body_first (option_copied p.first) (loop_of p)
-
--- a part by whose value the frame ends
-abbrev pub Gives : Tree → Held → Next → Held → Type 0
-Gives t old n new =
-    ResumesValue t old (Err (over.Next n)) new
-    ⊎ ((w : Value) × (mid : Held) × ResumesValue t old (Ok w) mid × EndsWith (completion.Normal (Some w)) mid n new)
 
 -- a part whose value is kept, where it has one
 abbrev pub Keeps : Tree → Held → Result (Unit {0}) Over → Held → Type 0

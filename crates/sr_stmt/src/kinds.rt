@@ -6,10 +6,9 @@ ghost use Rattle.sr_stmt.specs.Rows as rows;
 ghost use Rattle.sr_stmt.specs.Rows.{operation};
 ghost use Rattle.sr_stmt.specs.Stages.{StepsOn, statement_at};
 
-use crate::choice::choice;
 use crate::lists::block;
 use crate::loops::{Looping, turn, while_loop};
-use crate::simple::{empty, expression};
+use crate::simple::{choice, empty, expression};
 use crate::variables::variables;
 use sr_ast::{Node, Tree};
 use sr_state::{Next, Over, State};

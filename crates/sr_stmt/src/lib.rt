@@ -1,8 +1,6 @@
 //! The steps of statements and sources (ECMA-262 14, 16.1).
 #![tactic(auto)]
 
-/// Conditions.
-mod choice;
 /// The step of the frame on top, by the kind of its tree.
 mod kinds;
 /// Statements in order.
@@ -11,7 +9,7 @@ mod lists;
 mod loops;
 /// Sources.
 mod scripts;
-/// Statements without statements in them.
+/// Expressions as statements, the empty statement, and conditions.
 mod simple;
 /// Declarations of `var`.
 mod variables;
