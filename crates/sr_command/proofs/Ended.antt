@@ -3,6 +3,7 @@ use Rattle.std.proofs.Common.{◌≡◌, ℕ, ◌++◌, List, [], ◌∷◌, tak
 use Rattle.std.specs.Prelude.{codes}
 use Rattle.std.specs.Io.KnownBytes.{Appends}
 use Rattle.sr_outside.specs.Writing.{AppendsPart}
+use Rattle.sr_worlds.proofs.LiveLarger.{start_more}
 use Rattle.sr_outside.specs.declared.loader.Loaded.{Loaded}
 use Rattle.sr_outside.specs.declared.sink.WriteRefusal.{WriteRefusal}
 use Rattle.sr_outside.specs.declared.sink.WriteRefusal.TheVariants.{Failed, Memory}
@@ -16,7 +17,7 @@ use Rattle.sr_command.specs.Runs.{Runs, RunsFile, file}
 use Rattle.sr_command.specs.Reaching.{RanOut, Reaches}
 use Rattle.sr_command.specs.Answers.{part_of_line, IsRun, ReachesRun, Completes, BreaksOff, Starves, StarvesAtOnce}
 use Rattle.sr_command.proofs.Gaining.{gains_both, err_gains, shown_part}
-use Rattle.sr_command.proofs.Leading.{start_of, start_more}
+use Rattle.sr_command.proofs.Leading.{start_of}
 
 -- what a file's run came to, the command's run came to
 pub file_reached : (words : List (List ℕ)) (c : Command) (before after : Option (List ℕ × Loaded)) (r : Result Status WriteRefusal) (old new : Streams)

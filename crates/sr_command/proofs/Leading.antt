@@ -9,19 +9,13 @@ use Rattle.sr_model.specs.Globals.{Holds}
 use Rattle.sr_worlds.specs.Evaluation.{Done, Over}
 use Rattle.sr_worlds.specs.Live.{Why, Stopped, Steps, Short, LiveRan}
 use Rattle.sr_worlds.specs.Run.{File}
-use Rattle.sr_worlds.specs.Laws.{Unless, Lasts, is_short, short, writes_of}
+use Rattle.sr_worlds.specs.Laws.{Lasts, is_short, short, writes_of}
 use Rattle.sr_worlds.specs.Laws as laws
-use Rattle.sr_worlds.proofs.LiveLarger.{run_larger, run_writes}
+use Rattle.sr_worlds.proofs.LiveLarger.{start_self, start_more, run_larger, run_writes}
 use Rattle.sr_machine.specs.Language.{language}
 use Rattle.sr_command.specs.Writes.{Write, IsStart}
 use Rattle.sr_command.specs.Courses.{Course, HasEnded, LeadsTo, write_of, over_course, course_of}
 use Rattle.sr_command.specs.Runs.{reading_run}
-
-pub start_self : {A : Type 0} → (xs : List A) → (rest : List A) × (xs ≡ xs ++ rest)
-start_self xs = ([], sym (append-nil xs))
-
-pub start_more : {A : Type 0} → (xs ys zs : List A) → (rest : List A) × (ys ≡ xs ++ rest) → (rest : List A) × (zs ≡ ys ++ rest) → (rest : List A) × (zs ≡ xs ++ rest)
-start_more {A} xs ys zs (a, e) (b, e') = (a ++ b, e' ∙ ap (λ (vs : List A). vs ++ b) e ∙ append_assoc xs a b)
 
 -- what leads to a course leads to what that leads to
 pub leads_on : (a b c : Course) → LeadsTo a b → LeadsTo b c → LeadsTo a c
@@ -61,17 +55,13 @@ module _ (bound : ℕ) where
   pub point_leads : (v : List worlds.Write) (r : LiveRan Holds) → laws.IsStart v (writes_of r) → LeadsTo (record { writes = map write_of v; status = None }) (course_of bound r)
   point_leads v r start = inr (refl, course_begins v r start)
 
-  over_further : (why : Why) (realm : Path) (w : worlds.World Holds) (c : Course) → Unless (is_short why) (c ≡ over_course bound why realm w) → IsStart (map write_of w.writes) c.writes → LeadsTo (over_course bound why realm w) c
+  over_further : (why : Why) (realm : Path) (w : worlds.World Holds) (c : Course) → (is_short why ≡ false → c ≡ over_course bound why realm w) → IsStart (map write_of w.writes) c.writes → LeadsTo (over_course bound why realm w) c
   over_further Short realm w c same start = inr (refl, start)
-  over_further why realm w c same start = inl (sym same)
-
-  unless_ap : (b : Bool) (r r' : LiveRan Holds) → Unless b (r' ≡ r) → Unless b (course_of bound r' ≡ course_of bound r)
-  unless_ap true r r' e = tt
-  unless_ap false r r' e = ap (course_of bound) e
+  over_further why realm w c same start = inl (sym (same refl))
 
   further : (r r' : LiveRan Holds) → Lasts short r r' → laws.IsStart (writes_of r) (writes_of r') → LeadsTo (course_of bound r) (course_of bound r')
-  further (Done w o) r' same start = inl (sym (ap (course_of bound) same))
-  further (Over w x) r' same start = (let c = x.place in over_further x.why c.realm w (course_of bound r') (unless_ap (short x) (Over w x) r' same) (course_begins w.writes r' start))
+  further (Done w o) r' same start = inl (sym (ap (course_of bound) (same refl)))
+  further (Over w x) r' same start = (let c = x.place in over_further x.why c.realm w (course_of bound r') (λ n. ap (course_of bound) (same n)) (course_begins w.writes r' start))
 
   -- with more depth a run comes further
   pub more_depth_leads : (read : Text → Reading) (name units : List ℕ) (n m : ℕ) → n ≤ m → LeadsTo (course_of bound (reading_run read bound name units n)) (course_of bound (reading_run read bound name units m))
