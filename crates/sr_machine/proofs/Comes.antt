@@ -34,7 +34,7 @@ use Rattle.sr_machine.specs.Stack.{waiting, above, comes, depths}
 use Rattle.sr_machine.specs.Going.{operand_charge, first_charge, PaysFirst, Ready, Busy, AtRest, IsWhy, frame_weight, frames_weight, answer_weight, printed}
 use Rattle.sr_machine.proofs.Worlds.{here_along, places_along, line_is}
 use Rattle.sr_machine.proofs.Rows.{IsBegun, begun, fresh_pays}
-use Rattle.sr_machine.proofs.Exact.{from, all_steps, looks, changes, pays as pays_exactly, enters, refused, shut, too_deep, evaluates, operand_refused}
+use Rattle.sr_machine.proofs.Exact.{from, all_steps, exact, looks, changes, paid, evaluates, operand_refused}
 
 -- depths that are all less by i
 pub shifted : (i : ℕ) (js : List ℕ) (n : ℕ) → depths (map (λ j. i + j) js) n ≡ depths js (n - i)
@@ -42,13 +42,12 @@ shifted i [] n = refl
 shifted i (j ∷ js) n = (λ k. (let e : n - (i + j) ≡ n - i - j = omega arith in e) k ∷ shifted i js n k)
 
 -- the limit of the weight above the frames below: less where nothing was paid
-abbrev pub limit : Bool → ℕ
-limit true = 6
-limit false = 5
+abbrev pub more : Bool → ℕ
+more true = 1
+more false = 0
 
-limit_least : (b : Bool) → 5 ≤ limit b
-limit_least true = omega arith
-limit_least false = omega arith
+abbrev pub limit : Bool → ℕ
+limit paid = 5 + more paid
 
 -- of the script of a frame that is put back with k active calls this holds
 abbrev pub Stands : Stay
@@ -132,10 +131,6 @@ module _ (read : Text → Reading) (z : Tapes) (o : Outer) (under : List Frame) 
     }
     came_at paid v u next.CutOff new c = absurd c
 
-  -- another script, at the same depth
-  pub came_as : (j : ℕ) (was is : Comes) → ((D : ℕ) (ds : List ℕ) → j ≤ D → was D ds ≡ is D ds) → (paid : Bool) (v : List Write) (u : ℕ) (n : Next) (new : Held) → Came paid is v u n new → Came paid was v u n new
-  came_as j was is e = came_at 0 j was is (λ D ds le. e D ds le ∙ ap (λ d. is d ds) (let a : D ≡ D - 0 = omega arith in a))
-
 -- an end is what the frame below is given
 module _ (read : Text → Reading) (z : Tapes) (o : Outer) (paid : Bool) (v : List Write) (x : Side) (k : ℕ) (here : Here o x) where
   end_same : (f : Frame) (fs : List Frame) (c : code.Completion) (y : Completion) → completion_of c ≡ y → (D : ℕ) (ds : List ℕ) → length ds ≡ suc (length fs) →
@@ -147,7 +142,7 @@ module _ (read : Text → Reading) (z : Tapes) (o : Outer) (paid : Bool) (v : Li
       GoesTo read z o us paid (from read z o v us x k (Give y)) v x.used (below us (record { side = x; outer = o; answer = a; top = t; frames = us }))
   ended_by us t answer.Empty y e waits = absurd e
   ended_by [] t (answer.Done c) y e waits = (
-    record { outer = refl; used = refl; here = here; ready = tt; waits = tt; rest = λ e. refl; low = omega (arith, limit_least paid) },
+    record { outer = refl; used = refl; here = here; ready = tt; waits = tt; rest = λ e. refl; low = omega arith },
     record {
       offsets = 0 ∷ [];
       along = omega arith;
@@ -156,7 +151,7 @@ module _ (read : Text → Reading) (z : Tapes) (o : Outer) (paid : Bool) (v : Li
     },
   )
   ended_by (f ∷ fs) t (answer.Done c) y e waits = (
-    record { outer = refl; used = refl; here = here; ready = tt; waits = waits.1; rest = λ e. not_both (is_idle f.activity) e waits.0; low = omega (arith, limit_least paid) },
+    record { outer = refl; used = refl; here = here; ready = tt; waits = waits.1; rest = λ e. not_both (is_idle f.activity) e waits.0; low = omega arith },
     record { offsets = []; along = omega arith; least = 0; same = λ D ds le len. end_same f fs c y e D ds len },
   )
 
@@ -214,7 +209,7 @@ module _ (read : Text → Reading) (z : Tapes) (o : Outer) (no_cut : o.cut ≡ N
   SameAs x k s vs g = Same read z o under (was x k s) vs g
 
   alike : (j : ℕ) (paid : Bool) (x x' : Side) (k k' u : ℕ) (s s' : language.Steps) → ((D : ℕ) (ds : List ℕ) → j ≤ D → was x k s D ds ≡ was x' k' s' D ds) → CameAt paid x' k' s' u → CameAt paid x k s u
-  alike j paid x x' k k' u s s' e = came_as read z o under j (was x k s) (was x' k' s') e paid v u n new
+  alike j paid x x' k k' u s s' e = came_at read z o under 0 j (was x k s) (was x' k' s') (λ D ds le. e D ds le ∙ ap (λ d. was x' k' s' d ds) (let a : D ≡ D - 0 = omega arith in a)) paid v u n new
 
   abbrev held : Side → List Frame → Held
   held x fs = record { side = x; outer = o; answer = answer.Empty; top = new.top; frames = fs }
@@ -253,7 +248,7 @@ module _ (read : Text → Reading) (z : Tapes) (o : Outer) (no_cut : o.cut ≡ N
             ready = pays;
             waits = waits;
             rest = λ e. not_both (is_idle new.top.activity) e busy;
-            low = (let a = ap frame_weight busy in omega (arith, a, limit_least paid, most));
+            low = (let a = ap frame_weight busy in omega (arith, a, most));
           },
           same,
         ))
@@ -335,7 +330,7 @@ module _ (read : Text → Reading) (z : Tapes) (o : Outer) (no_cut : o.cut ≡ N
             ready = tt;
             waits = waits;
             rest = λ e. not_both (is_idle new.top.activity) e r.0;
-            low = (let a = ap frame_weight r.0 in let b = ap limit pay in omega (arith, a, b));
+            low = (let a = ap frame_weight r.0 in let b = ap more pay in omega (arith, a, b));
           },
           record {
             offsets = 0 ∷ [];
@@ -393,14 +388,15 @@ module _ (read : Text → Reading) (z : Tapes) (o : Outer) (no_cut : o.cut ≡ N
         first_as x (change_in f x) k (Change f s) s refl refl (λ D ds. changes read z o v under x k D ds here f s) (first s (change_in f x) k (here_along o x (with_inner f) refl here) pays g)
     first (Pay c s) x k here pays g =
         first_pays x (pay_in (suc c) x) k k c 0 (Pay c s) s here (here_along o x (with_steps (suc c)) refl here) refl refl
-        (λ room D ds le. pays_exactly read z o v under x k D ds here c s room) (λ room D ds le. refused read z o v under x k D ds c s room) g
+        (λ room D ds le. exact read z o v under x k D ds (Pay c s) ∙ rw room (paid read z o v under x k D ds here (suc c) k s)) (λ room D ds le. exact read z o v under x k D ds (Pay c s) ∙ rw room) g
     first (Enter s) x k here pays g = by (may_enter k) refl g
       where
         by : (b : Bool) → may_enter k ≡ b → Where b (Charged 1 o x n new (goes m Paid s stays under o (pay_in 1 x) (suc k) n new)) (Stops (next.Halt stop.CallDepth) o x n new) → First x k (Enter s)
-        by false may g = first_over x k (Enter s) stop.CallDepth (Stopped CallDepth) here (CallDepth, refl, refl) 0 (λ D ds le. too_deep read z o v under x k D ds s may) g
+        by false may g = first_over x k (Enter s) stop.CallDepth (Stopped CallDepth) here (CallDepth, refl, refl) 0 (λ D ds le. exact read z o v under x k D ds (Enter s) ∙ rw may) g
         by true may g =
             first_pays x (pay_in 1 x) k (suc k) 0 0 (Enter s) s here (here_along o x (with_steps 1) refl here) refl refl
-            (λ room D ds le. enters read z o v under x k D ds here s may room) (λ room D ds le. shut read z o v under x k D ds s may room) g
+            (λ room D ds le. exact read z o v under x k D ds (Enter s) ∙ rw may (rw room (paid read z o v under x k D ds here 1 (suc k) s)))
+            (λ room D ds le. exact read z o v under x k D ds (Enter s) ∙ rw may (rw room)) g
     first (Part (Run a e t) s) x k here pays g = by (operand_of t) refl g
       where
         by : (b : Option Operand) → operand_of t ≡ b → on_part b Fresh (λ y. Charged 1 o x n new (let x' = begun_in a t.from x in goes m Paid (s (end_of y (realm_in x'))) stays under o x' k n new))

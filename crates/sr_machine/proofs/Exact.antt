@@ -3,13 +3,13 @@ use Rattle.std.proofs.Common.{◌≡◌, refl, sym, ap, ◌∙◌, subst, ℕ, z
 use Rattle.sr_ast.specs.declared.tree.Tree.{Tree}
 use Rattle.sr_ast.specs.declared.reading.Reading.{Reading}
 use Rattle.sr_model.specs.Values.{Text}
-use Rattle.sr_model.specs.Outcomes.{Completion, CallDepth}
+use Rattle.sr_model.specs.Outcomes.{Completion}
 use Rattle.sr_model.specs.Realm.{Inner, Realm}
 use Rattle.sr_model.specs.Tasks.{Run}
-use Rattle.sr_model.specs.Scripts.{Look, Change, Part, Pay, Enter, then_follow, IsPlain}
-use Rattle.sr_model.specs.World.{Write, World, put, pay, may_enter}
+use Rattle.sr_model.specs.Scripts.{Look, Change, Part, Pay, then_follow, IsPlain}
+use Rattle.sr_model.specs.World.{Write, put, pay}
 use Rattle.sr_model.specs.Globals.{Holds, marked}
-use Rattle.sr_worlds.specs.Live.{LiveRan, Stopped, Steps, over, live}
+use Rattle.sr_worlds.specs.Live.{LiveRan, Steps, over, live}
 use Rattle.sr_worlds.specs.LiveStacks.{live_owed}
 use Rattle.sr_worlds.specs.Stacks as stacks
 use Rattle.sr_worlds.proofs.StackSteps.{steps}
@@ -33,18 +33,8 @@ module _ (read : Text → Reading) (z : Tapes) (o : Outer) (v : List Write) (und
 
   module _ (x : Side) (k D : ℕ) (ds : List ℕ) where
     -- a step of the script, as the worlds have it
-    exact : (s : language.Steps) → from x k s D ds ≡ stacks.stepped (language read) (live (language read) o.bound) (live_owed (language read) o.bound) D (place_in o x k) (world_in z v o x) (waiting (place_in o x) under ds) s
+    pub exact : (s : language.Steps) → from x k s D ds ≡ stacks.stepped (language read) (live (language read) o.bound) (live_owed (language read) o.bound) D (place_in o x k) (world_in z v o x) (waiting (place_in o x) under ds) s
     exact s = (let a = all_steps in a.exact D (place_in o x k) (world_in z v o x) s (waiting (place_in o x) under ds))
-
-    -- a charge that is refused, and one call too many
-    pub refused : (c : ℕ) (s : language.Steps) → room_in o.bound x (suc c) ≡ false → from x k (Pay c s) D ds ≡ over (Steps (suc c)) (place_in o x k) (world_in z v o x)
-    refused c s room = exact (Pay c s) ∙ rw room
-
-    pub too_deep : (s : language.Steps) → may_enter k ≡ false → from x k (Enter s) D ds ≡ over (Stopped CallDepth) (place_in o x k) (world_in z v o x)
-    too_deep s may = exact (Enter s) ∙ rw may
-
-    pub shut : (s : language.Steps) → may_enter k ≡ true → room_in o.bound x 1 ≡ false → from x k (Enter s) D ds ≡ over (Steps 1) (place_in o x k) (world_in z v o x)
-    shut s may room = exact (Enter s) ∙ rw may (rw room)
 
     module _ (h : Here o x) where
       pub looks : (f : Realm Holds → language.Steps) → from x k (Look f) D ds ≡ from x k (f (realm_in x)) D ds
@@ -56,14 +46,8 @@ module _ (read : Text → Reading) (z : Tapes) (o : Outer) (v : List Write) (und
           ∙ sym (λ i. above read o.bound (places_along o x (with_inner f) refl i) (change_is z o x h v f i) k s D under ds)
 
       -- as many steps more are used
-      paid : (c j : ℕ) (s : language.Steps) → above read o.bound (place_in o x) (pay (path_at (paths (table o x)) o.here) c (world_in z v o x)) j s D under ds ≡ from (pay_in c x) j s D ds
+      pub paid : (c j : ℕ) (s : language.Steps) → above read o.bound (place_in o x) (pay (path_at (paths (table o x)) o.here) c (world_in z v o x)) j s D under ds ≡ from (pay_in c x) j s D ds
       paid c j s = sym (λ i. above read o.bound (places_along o x (with_steps c) refl i) (pay_is z o x h v c i) j s D under ds)
-
-      pub pays : (c : ℕ) (s : language.Steps) → room_in o.bound x (suc c) ≡ true → from x k (Pay c s) D ds ≡ from (pay_in (suc c) x) k s D ds
-      pays c s room = exact (Pay c s) ∙ rw room (paid (suc c) k s)
-
-      pub enters : (s : language.Steps) → may_enter k ≡ true → room_in o.bound x 1 ≡ true → from x k (Enter s) D ds ≡ from (pay_in 1 x) (suc k) s D ds
-      enters s may room = exact (Enter s) ∙ rw may (rw room (paid 1 (suc k) s))
 
   -- a literal or a name that is a part is evaluated in its place
   operand_follows : (y : Operand) (s : Completion → language.Steps) (x : Side) (k D : ℕ) (ds : List ℕ) → Here o x → from x k (then_follow (operand_script y) s) D ds ≡ from x k (s (end_of y (realm_in x))) D ds
@@ -87,11 +71,11 @@ module _ (read : Text → Reading) (z : Tapes) (o : Outer) (v : List Write) (und
         ∙ ap (λ j. from x k (then_follow j s) (suc d) ds) same)
 
     pub operand_refused : room_in o.bound x 1 ≡ false → (D : ℕ) (ds : List ℕ) → 1 ≤ D → from x k (Part (Run a e t) s) D ds ≡ over (Steps 1) (place_in o x k) (world_in z v o x)
-    operand_refused room D ds le = in_place D ds le ∙ refused x k D ds 0 (Change (marked a t.from) operand_then) room
+    operand_refused room D ds le = in_place D ds le ∙ exact x k D ds (Pay 0 (Change (marked a t.from) operand_then)) ∙ rw room
 
     pub evaluates : Here o x → room_in o.bound x 1 ≡ true → (D : ℕ) (ds : List ℕ) → 1 ≤ D → (let x' = begun_in a t.from x in from x k (Part (Run a e t) s) D ds ≡ from x' k (s (end_of y (realm_in x'))) D ds)
     evaluates h room D ds le =
         let h' = here_along o x (with_steps 1) refl h in
         let m = marked a t.from in
-        in_place D ds le ∙ pays x k D ds h 0 (Change m operand_then) room ∙ changes (pay_in 1 x) k D ds h' m operand_then
+        in_place D ds le ∙ exact x k D ds (Pay 0 (Change m operand_then)) ∙ rw room (paid x k D ds h 1 k (Change m operand_then)) ∙ changes (pay_in 1 x) k D ds h' m operand_then
         ∙ operand_follows y s (begun_in a t.from x) k D ds (here_along o (pay_in 1 x) (with_inner m) refl h')

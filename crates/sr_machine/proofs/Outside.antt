@@ -1,7 +1,6 @@
 -- A step leaves what stands outside the realm that runs as it is, and a run comes to no cut.
-use Rattle.std.proofs.Common.{◌≡◌, subst, ℕ, suc, Bool, true, false, List, Option, None, Some}
+use Rattle.std.proofs.Common.{◌≡◌, sym, ◌∙◌, subst, ℕ, suc, Bool, true, false, List, Option, None, Some}
 use Rattle.std.specs.Prelude.{Result, Ok, Err, IfOk, OnOk}
-use Rattle.sr_model.specs.Outcomes.{Stop}
 use Rattle.sr_model.specs.Tasks.{Run, Operate}
 use Rattle.sr_model.specs.Scripts.{Give, Halt, Look, Change, Part, Become, Pay, Enter, Line}
 use Rattle.sr_model.specs.World.{may_enter}
@@ -13,7 +12,7 @@ use Rattle.sr_state.specs.declared.ends.Next.TheVariants as next
 use Rattle.sr_state.specs.declared.ends.StopName.TheVariants as stop
 use Rattle.sr_state.specs.Ends.{HaltsBy}
 use Rattle.sr_state.specs.Held.{Held, Side, Outer, realm_in, change_in, pay_in, begun_in}
-use Rattle.sr_state.specs.Step.{At, Stay, Stays, StaysAnywhere, StepsFor, kept_of, given_of, far_of, Far, Fresh, Paid, Operand, operand_of, end_of, Left, Where, Stops, Charged, Further, further, nowhere, on_part, goes}
+use Rattle.sr_state.specs.Step.{At, Stay, Stays, StaysAnywhere, StepsFor, kept_of, given_of, far_of, Far, Fresh, Paid, Operand, operand_of, end_of, Where, Stops, Charged, Further, further, nowhere, on_part, goes}
 use Rattle.sr_state.specs.Work as language
 use Rattle.sr_stmt.specs.Rows.{operation}
 use Rattle.sr_stmt.specs.Stages.{source_at}
@@ -21,30 +20,19 @@ use Rattle.sr_call.specs.Stages.{built_in_at}
 use Rattle.sr_machine.specs.Stages.{tree_at, StepsOf, FrameSteps}
 use Rattle.sr_machine.proofs.Comes.{charged}
 
-abbrev pub IsCut : Next → Type 0
-IsCut next.CutOff = Unit {0}
-IsCut n = ⊥
-
-halt_no_cut : (n : Next) (y : Stop) → HaltsBy n y → IsCut n → ⊥
-halt_no_cut next.CutOff y h c = h
-halt_no_cut n y h c = c
-
 abbrev pub Outside : Outer → Next → Held → Type 0
-Outside o n new = (new.outer ≡ o) × (IsCut n → ⊥)
+Outside o n new = (new.outer ≡ o) × (n ≡ next.CutOff → ⊥)
 
 module _ (stays : Stay) (under : List Frame) (o : Outer) (no_cut : o.cut ≡ None) (n : Next) (new : Held) where
-  ends_by : (a : Next) → (IsCut a → ⊥) → n ≡ a → new.outer ≡ o → Outside o n new
-  ends_by a not is outer = (outer, λ c. not (subst IsCut is c))
-
-  left_by : (a : Next) (x : Side) → (IsCut a → ⊥) → n ≡ a → Left o x new → Outside o n new
-  left_by a x not is left = ends_by a not is left.2
+  ends_by : (a : Next) → n ≡ a → new.outer ≡ o → (a ≡ next.CutOff → ⊥) → Outside o n new
+  ends_by a is outer not = (outer, λ e. not (sym is ∙ e))
 
   pays_by : (c : ℕ) (x : Side) (A : Type 0) → Charged c o x n new A → (A → Outside o n new) → Outside o n new
-  pays_by c x A g go = charged o no_cut n new c x A g (λ room. go) (λ room h. ends_by (next.Halt (stop.Steps x.used c)) (λ c. c) h.0 h.2)
+  pays_by c x A g go = charged o no_cut n new c x A g (λ room. go) (λ room h. ends_by (next.Halt (stop.Steps x.used c)) h.0 h.2 (λ e. cc))
 
   enters_by : (x : Side) (b : Bool) (A : Type 0) → Where b (Charged 1 o x n new A) (Stops (next.Halt stop.CallDepth) o x n new) → (A → Outside o n new) → Outside o n new
   enters_by x true A g go = pays_by 1 x A g go
-  enters_by x false A g go = ends_by (next.Halt stop.CallDepth) (λ c. c) g.0 g.2
+  enters_by x false A g go = ends_by (next.Halt stop.CallDepth) g.0 g.2 (λ e. cc)
 
   part_by : (b : Far) (y : Option Operand) (E : Operand → Type 0) (S B : Type 0) → on_part y b E S B → ((z : Operand) → E z → Outside o n new) → (S → Outside o n new) → (B → Outside o n new) → Outside o n new
   part_by b None E S B g evaluates stays begins = begins g
@@ -53,22 +41,22 @@ module _ (stays : Stay) (under : List Frame) (o : Outer) (no_cut : o.cut ≡ Non
 
   module _ (m : Further) (known : (b : Far) (x : Side) (k : ℕ) (y : language.Operation) → m b x k y n new → Outside o n new) where
     outside : (b : Far) (s : language.Steps) (x : Side) (k : ℕ) → goes m b s stays under o x k n new → Outside o n new
-    outside b (Give y) x k g = ends_by next.Ended (λ c. c) g.0 g.3
-    outside b (Halt y) x k g = (g.2, halt_no_cut n y g.0)
+    outside b (Give y) x k g = ends_by next.Ended g.0 g.3 (λ e. cc)
+    outside b (Halt y) x k g = (g.2, λ e. subst (λ (n : Next). HaltsBy n y) e g.0)
     outside b (Look f) x k g = outside b (f (realm_in x)) x k g
     outside b (Change f s) x k g = outside b s (change_in f x) k g
     outside Fresh (Pay c s) x k g = pays_by (suc c) x _ g (outside Paid s (pay_in (suc c) x) k)
-    outside b (Pay c s) x k g = left_by next.Going x (λ c. c) g.0 g.1
+    outside b (Pay c s) x k g = ends_by next.Going g.0 g.1.2 (λ e. cc)
     outside Fresh (Enter s) x k g = enters_by x (may_enter k) _ g (outside Paid s (pay_in 1 x) (suc k))
-    outside b (Enter s) x k g = left_by next.Going x (λ c. c) g.0 g.1
-    outside Paid (Line text s) x k g = left_by (next.Print text) x (λ c. c) g.0 g.1
+    outside b (Enter s) x k g = ends_by next.Going g.0 g.1.2 (λ e. cc)
+    outside Paid (Line text s) x k g = ends_by (next.Print text) g.0 g.1.2 (λ e. cc)
     outside b (Line text s) x k g = absurd g
     outside b (Part (Run a e t) s) x k g =
         part_by b (operand_of t) _ _ _ g (λ y h. let x' = begun_in a t.from x in pays_by 1 x _ h (outside Paid (s (end_of y (realm_in x'))) x' k))
-        (λ h. left_by next.Going x (λ c. c) h.0 h.1) (λ h. left_by next.Going x (λ c. c) h.0 h.1)
-    outside b (Part t s) x k g = left_by next.Going x (λ c. c) g.0 g.1
+        (λ h. ends_by next.Going h.0 h.1.2 (λ e. cc)) (λ h. ends_by next.Going h.0 h.1.2 (λ e. cc))
+    outside b (Part t s) x k g = ends_by next.Going g.0 g.1.2 (λ e. cc)
     outside b (Become (Operate y)) x k g = known b x k y g
-    outside b (Become t) x k g = left_by next.Going x (λ c. c) g.0 g.1
+    outside b (Become t) x k g = ends_by next.Going g.0 g.1.2 (λ e. cc)
     outside b s x k g = absurd g
 
 steps_outside : (stays : Stay) (at : At) (old : Held) (n : Next) (new : Held) → old.outer.cut ≡ None → StepsFor stays operation at old n new → Outside old.outer n new
@@ -86,8 +74,9 @@ frame_outside (activity.BuiltIn b) old n new no_cut g = steps_outside (Stays (bu
 
 module _ {E : Type 0} (old new : Held) (no_cut : old.outer.cut ≡ None) where
   pub outer_of : (r : Result Next E) → IfOk r (λ n. FrameSteps old n new) → OnOk r (new.outer ≡ old.outer)
-  outer_of (Ok n) g = (let h = frame_outside old.top.activity old n new no_cut g in h.0)
+  outer_of (Ok n) g = (frame_outside old.top.activity old n new no_cut g).0
   outer_of (Err e) g = tt
 
   pub never_cut : (r : Result Next E) → IfOk r (λ n. FrameSteps old n new) → r ≡ Ok next.CutOff → ⊥
-  never_cut r g is = (let h = frame_outside old.top.activity old next.CutOff new no_cut (subst (λ (r : Result Next E). IfOk r (λ n. FrameSteps old n new)) is g) in h.1 tt)
+  never_cut (Ok n) g is = (frame_outside old.top.activity old n new no_cut g).1 cc
+  never_cut (Err e) g is = cc
