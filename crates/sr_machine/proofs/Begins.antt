@@ -25,10 +25,11 @@ use Rattle.sr_state.specs.declared.ends.Completion.{Completion}
 use Rattle.sr_state.specs.Ends.{completion_of}
 use Rattle.sr_state.specs.Held.{Held, is_idle}
 use Rattle.sr_state.specs.Step.{Given, Began, Ended, given_of, kept_of}
+use Rattle.sr_state.specs.Work.{Steps}
 use Rattle.sr_machine.specs.Language.{language, source_of}
 use Rattle.sr_machine.specs.Stages.{passed, at_of, script_of}
 use Rattle.sr_machine.specs.Worlds.{Tapes, world_of, place_of}
-use Rattle.sr_machine.specs.Stack.{waiting, above, on_top, comes, depths}
+use Rattle.sr_machine.specs.Stack.{waiting, above, comes, depths}
 use Rattle.sr_machine.specs.Going.{PaysFirst, Ready, AtRest, Under}
 use Rattle.sr_machine.specs.Running.{given, source_run, source_tapes, Begins, EndsAtRest, WritesFirst}
 use Rattle.sr_machine.proofs.Comes.{not_both}
@@ -45,17 +46,7 @@ module _ (read : Text → Reading) (bound : ℕ) (goal : Goal) (name : Name) (te
   held = (given bound (source_of read text)).held
 
   first_world : event root (Took (Source goal name text)) (start (language read)) ≡ world_of tapes [] held
-  first_world = (λ j. let w : World Holds = record {
-    slots = λ q. first_slot (same q root) q (Took (Source goal name text)) j;
-    made = root ∷ [];
-    links = [];
-    pending = [];
-    told = [];
-    tickets = [];
-    answers = [];
-    used = 0;
-    writes = [];
-  } in w)
+  first_world = (λ j. let w : World Holds = start (language read) in record w { slots = λ q. first_slot (same q root) q (Took (Source goal name text)) j })
 
   first_same : (n : ℕ) → 1 ≤ n → source_run read bound goal name text n ≡ comes read bound tapes [] held (depths (1 ∷ []) n)
   first_same zero le = absurd (omega (arith, le))
@@ -65,7 +56,7 @@ module _ (read : Text → Reading) (bound : ℕ) (goal : Goal) (name : Name) (te
 
 pub begins : Begins
 begins read bound goal name text = record {
-  sound = record { here = (refl, refl); live = refl; bounded = refl; within = omega arith; ready = tt; waits = tt; rest = λ e. not_both false e refl };
+  sound = record { here = (refl, refl); live = refl; bounded = refl; within = omega arith; ready = tt; waits = tt; rest = λ e. not_both e refl };
   offsets = 1 ∷ [];
   along = refl;
   least = 1;
@@ -74,9 +65,7 @@ begins read bound goal name text = record {
 
 idle_is : (a : Activity) → is_idle a ≡ true → a ≡ activity.Idle
 idle_is activity.Idle e = refl
-idle_is (activity.Tree t) e = cc
-idle_is (activity.Source x) e = cc
-idle_is (activity.BuiltIn b) e = cc
+idle_is a e = cc
 
 module _ (read : Text → Reading) (bound : ℕ) (z : Tapes) (meaning : ℕ → LiveRan Holds) (v : List Write) (h : Held) where
   idle_script : AtRest h → (g : Given) → script_of h.top g ≡ passed g
@@ -90,22 +79,23 @@ module _ (read : Text → Reading) (bound : ℕ) (z : Tapes) (meaning : ℕ → 
       ends [] long n = absurd (omega (arith, long))
       ends (p ∷ ps) long n =
           (let s = u.sound in
-          ap (λ (a : Answer). on_top read bound (place_of h) (world_of z v h) h.top h.frames (given_of a) (depths (p ∷ ps) n)) is
+          ap (λ (a : Answer). above read bound (place_of h) (world_of z v h) h.top.calls (script_of h.top (given_of a)) (n - p) h.frames (depths ps n)) is
           ∙ (λ i. above read bound (place_of h) (world_of z v h) h.top.calls (idle_script rest (Ended (completion_of o)) i) (n - p) (s.rest rest i) (depths ps n)))
+
+  abbrev followed : ℕ → Place → World Holds → Steps → LiveRan Holds
+  followed d c w s = follow (language read) (live (language read) bound) (ev (language read) (live (language read) bound) d) c w s
 
   after_grows : (c : ℕ → Place) (fs : List Frame) (ds : List ℕ) (w : World Holds) (x : model.Completion) → IsStart w.writes (writes_of (after (language read) (live (language read) bound) (live_owed (language read) bound) (waiting c fs ds) w x))
   after_grows c [] ds w x = start_self w.writes
   after_grows c (f ∷ fs) [] w x = start_self w.writes
   after_grows c (f ∷ fs) (d ∷ ds) w x =
-      then_writes w.writes (follow (language read) (live (language read) bound) (ev (language read) (live (language read) bound) d) (c f.calls) w (script_of f (Ended x))) _
-      (follow_writes (language read) bound d (script_of f (Ended x)) (c f.calls) w) (after_grows c fs ds)
+      then_writes w.writes (followed d (c f.calls) w (script_of f (Ended x))) _ (follow_writes (language read) bound d (script_of f (Ended x)) (c f.calls) w) (after_grows c fs ds)
 
   comes_grows : (ds : List ℕ) → IsStart v (writes_of (comes read bound z v h ds))
   comes_grows [] = start_self v
   comes_grows (d ∷ ds) =
-      (let c = place_of h h.top.calls in
-      let s = script_of h.top (given_of h.answer) in
-      then_writes v (follow (language read) (live (language read) bound) (ev (language read) (live (language read) bound) d) c (world_of z v h) s) _ (follow_writes (language read) bound d s c (world_of z v h)) (after_grows (place_of h) h.frames ds))
+      (let s = script_of h.top (given_of h.answer) in
+      then_writes v (followed d (place_of h h.top.calls) (world_of z v h) s) _ (follow_writes (language read) bound d s (place_of h h.top.calls) (world_of z v h)) (after_grows (place_of h) h.frames ds))
 
 pub ends_at_rest : EndsAtRest
 ends_at_rest h rest read bound z meaning v u = ends_by read bound z meaning v h h.answer refl rest u

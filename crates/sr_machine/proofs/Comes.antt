@@ -1,454 +1,298 @@
--- A step of the frame on top: what it comes to is what the machine goes on with, whose weight is below a limit.
-use Rattle.std.proofs.Common.{◌≡◌, ◌⊎◌, inl, inr, refl, sym, ap, ◌∙◌, subst, ℕ, zero, suc, ◌+◌, ◌-◌, ◌*◌, ◌≤◌, ◌<◌, Bool, true, false, List, [], ◌∷◌, ◌++◌, Option, Some, None, length, map, arith}
+-- A step of the frame on top, as it goes along a script: it leaves what stands outside the realm that runs as it is, it comes to no cut,
+-- and where the state is that of a run, so is what the machine goes on with, and the number falls.
+use Rattle.std.proofs.Common.{◌≡◌, ◌⊎◌, inr, refl, sym, ap, ◌∙◌, subst, ℕ, suc, ◌+◌, ◌-◌, ◌*◌, ◌≤◌, ◌<◌, Bool, true, false, List, [], ◌∷◌, ◌++◌, Option, Some, None, length, arith, append-nil}
 use Rattle.std.proofs.lemmas.Bool.{leb-true}
-use Rattle.std.proofs.lemmas.List.{length-map}
-use Rattle.sr_ast.specs.declared.reading.Reading.{Reading}
+use Rattle.sr_ast.specs.declared.tree.Tree.{Tree}
 use Rattle.sr_model.specs.Values.{Text}
 use Rattle.sr_model.specs.Outcomes.{Completion, Normal, Stop, CallDepth}
-use Rattle.sr_model.specs.Tasks.{Run, Apply, Operate}
-use Rattle.sr_model.specs.Scripts.{Give, Halt, Look, Change, Part, Become, Pay, Enter, Line}
-use Rattle.sr_model.specs.World.{Write, Printed, may_enter}
+use Rattle.sr_model.specs.Tasks.{Run, Operate}
+use Rattle.sr_model.specs.Scripts.{Give, Halt, Look, Change, Part, Become, Pay, Enter, Line, then_follow}
+use Rattle.sr_model.specs.World.{Printed, may_enter}
 use Rattle.sr_model.specs.Globals.{Holds, marked}
 use Rattle.sr_worlds.specs.Evaluation.{Done}
-use Rattle.sr_worlds.specs.Live.{Why, Stopped, LiveRan, over, live}
+use Rattle.sr_worlds.specs.Live.{Why, Stopped, LiveRan, over}
 use Rattle.sr_worlds.specs.Live as live
 use Rattle.sr_worlds.specs.LiveStacks.{live_means}
 use Rattle.sr_worlds.specs.Stacks.{Waits, top}
 use Rattle.sr_state.specs.declared.frame.Frame.{Frame}
 use Rattle.sr_state.specs.declared.ends.Answer.{Answer}
 use Rattle.sr_state.specs.declared.ends.Answer.TheVariants as answer
-use Rattle.sr_state.specs.declared.ends.Completion as code
+use Rattle.sr_state.specs.declared.ends.Completion.TheVariants as completion
 use Rattle.sr_state.specs.declared.ends.Next.{Next}
 use Rattle.sr_state.specs.declared.ends.Next.TheVariants as next
 use Rattle.sr_state.specs.declared.ends.StopName.{StopName}
 use Rattle.sr_state.specs.declared.ends.StopName.TheVariants as stop
-use Rattle.sr_state.specs.Ends.{completion_of, IsEnd, IsStop, HaltsBy}
-use Rattle.sr_state.specs.Held.{Held, Side, Outer, realm_in, with_inner, with_line, change_in, line_in, pay_in, begun_in, with_steps, room_in, cut_at, steps_in, is_idle, below}
-use Rattle.sr_state.specs.Step.{Given, Stay, Operand, operand_of, end_of, Ended, Began, Far, Paid, Resumed, Left, Goes, Begins, Becomes, OnOne, Is, IsPart, on_part, on_pay, on_line, Further, further, nowhere, given_of, far_of, goes, Charged, Where, Stops, Fresh}
+use Rattle.sr_state.specs.Ends.{IsEnd, HaltsBy}
+use Rattle.sr_state.specs.Held.{Held, Side, realm_in, with_line, change_in, line_in, pay_in, begun_in, room_in, cut_at, steps_in, is_idle, idle, below}
+use Rattle.sr_state.specs.Step.{Goes, Given, Began, Ended, Stay, Operand, operand_of, end_of, Far, Fresh, Resumed, Paid, Left, OnOne, Is, IsPart, IsFresh, on_part, Further, further, nowhere, given_of, goes, Charged, Where, Stops}
 use Rattle.sr_state.specs.Work as language
 use Rattle.sr_stmt.specs.Rows.{operation}
-use Rattle.sr_machine.specs.Language.{language}
+use Rattle.sr_machine.specs.Language.{language, row}
 use Rattle.sr_machine.specs.Stages.{script_of}
-use Rattle.sr_machine.specs.Worlds.{Tapes, Here, world_in, place_in, place_of, world_of}
-use Rattle.sr_machine.specs.Stack.{waiting, above, comes, depths}
-use Rattle.sr_machine.specs.Going.{operand_charge, first_charge, PaysFirst, Ready, Busy, AtRest, IsWhy, frame_weight, frames_weight, answer_weight, printed}
+use Rattle.sr_machine.specs.Worlds.{Here, world_in, place_in}
+use Rattle.sr_machine.specs.Stack.{above, comes, depths}
+use Rattle.sr_machine.specs.Going.{operand_charge, first_charge, OfRun, PaysFirst, Ready, Busy, AtRest, Moves, Halts, IsWhy, frame_weight, frames_weight, answer_weight, left_of, printed, writes_of}
 use Rattle.sr_machine.proofs.Worlds.{here_along, places_along, line_is}
-use Rattle.sr_machine.proofs.Rows.{IsBegun, begun, fresh_pays}
-use Rattle.sr_machine.proofs.Exact.{from, all_steps, exact, looks, changes, paid, evaluates, operand_refused}
+use Rattle.sr_machine.proofs.Rows.{operand_script, begun, fresh_pays}
+use Rattle.sr_machine.proofs.Exact.{Course, In, world, under, within, at, paying, Still, onward, deep, exact, looks, changes, charges, enters, pays, refuses, in_place, operand_follows}
 
--- depths that are all less by i
-pub shifted : (i : ℕ) (js : List ℕ) (n : ℕ) → depths (map (λ j. i + j) js) n ≡ depths js (n - i)
-shifted i [] n = refl
-shifted i (j ∷ js) n = (λ k. (let e : n - (i + j) ≡ n - i - j = omega arith in e) k ∷ shifted i js n k)
+-- what a step that is so far keeps of the number, beside the steps that are left and the frames under the top
+abbrev pub floor : Far → ℕ
+floor Fresh = 2
+floor Resumed = 5
+floor Paid = 6
 
--- the limit of the weight above the frames below: less where nothing was paid
-abbrev pub more : Bool → ℕ
-more true = 1
-more false = 0
-
-abbrev pub limit : Bool → ℕ
-limit paid = 5 + more paid
+-- more of it is kept once the step was given an end or has paid
+later : (b : Far) → (b ≡ Fresh → ⊥) → 5 ≤ floor b
+later Fresh late = absurd (late refl)
+later b late = omega arith
 
 -- of the script of a frame that is put back with k active calls this holds
 abbrev pub Stands : Stay
 Stands k f g P = (is_idle f.activity ≡ false) × (f.calls ≡ k) × P (script_of f g)
 
-pub not_both : {A : Type 0} → (b : Bool) → b ≡ true → b ≡ false → A
-not_both true e e' = absurd (let f : true ≡ false = e' in cc)
-not_both false e e' = absurd (let f : false ≡ true = e in cc)
+pub not_both : {A : Type 0} {b : Bool} → b ≡ true → b ≡ false → A
+not_both e e' = absurd (let f : true ≡ false = sym e ∙ e' in cc)
+
+paid_before : Paid ≡ Fresh → ⊥
+paid_before e = cc
 
 is_part : (t : language.Work) (s : Completion → language.Steps) (y : language.Steps) → IsPart t s y → y ≡ Part t s
 is_part t s (Part u j) h = λ i. Part (h.0 i) (λ e. h.1 e i)
 is_part t s y h = absurd h
 
-stop_why : (name : StopName) (y : Stop) (x : Side) → IsStop name y → IsWhy name (Stopped y) x
-stop_why (stop.Steps used cost) y x h = absurd h
-stop_why name y x h = (y, refl, h)
+halt_is : (a : Next) (y : Stop) (x : Side) → HaltsBy a y → (name : StopName) × (a ≡ next.Halt name) × IsWhy name (Stopped y) x
+halt_is (next.Halt (stop.Steps used cost)) y x h = absurd h
+halt_is (next.Halt name) y x h = (name, refl, (y, refl, h))
+halt_is a y x h = absurd h
 
-module _ (read : Text → Reading) (z : Tapes) (o : Outer) (under : List Frame) where
-  abbrev pub Comes : Type 0
-  Comes = ℕ → List ℕ → LiveRan Holds
+-- what a step does that comes to a part
+on_operand : {R : Type 0} → (b : Far) (y : Option Operand) (E : Operand → Type 0) (S B : Type 0) → on_part y b E S B →
+    ((w : Operand) → y ≡ Some w → b ≡ Fresh → E w → R) → ((w : Operand) → y ≡ Some w → 5 ≤ floor b → S → R) → (y ≡ None → B → R) → R
+on_operand b None E S B h evaluates stays begins = begins refl h
+on_operand Fresh (Some w) E S B h evaluates stays begins = evaluates w refl refl h
+on_operand b (Some w) E S B h evaluates stays begins = stays w refl (omega arith) h
 
-  -- the machine goes on with g: where u steps are used
-  pub record Facts (paid : Bool) (u : ℕ) (g : Held) : Type 0 where
-    pub outer : g.outer ≡ o
-    pub used : g.side.used ≡ u
-    pub here : Here g.outer g.side
-    pub ready : Ready g.top g.answer
-    pub waits : Busy g.frames
-    pub rest : AtRest g → g.frames ≡ []
-    pub low : frames_weight (g.top ∷ g.frames) + answer_weight g.answer < limit paid + frames_weight under
+-- what is told of a step in a run
+abbrev pub Keeps : Held → Held → Next → OfRun
+Keeps old new next.Going = Moves None old new
+Keeps old new next.Ended = Moves None old (below new.frames new)
+Keeps old new (next.Print text) = Moves (Some text) old (printed text new)
+Keeps old new (next.Halt name) = Halts name old new
+Keeps old new next.CutOff = λ read bound z meaning v. ⊥
 
-  -- what was to come is what g comes to
-  pub record Same (was : Comes) (v : List Write) (g : Held) : Type 0 where
-    pub offsets : List ℕ
-    pub along : length offsets + length under ≡ suc (length g.frames)
-    pub least : ℕ
-    pub same : (D : ℕ) (ds : List ℕ) → least ≤ D → length ds ≡ length under → was D ds ≡ comes read o.bound z v g (depths offsets D ++ ds)
+module _ (old : Held) (no_cut : old.outer.cut ≡ None) (n : Next) (new : Held) where
+  -- what the step has paid, where so many steps are used now, and that enough of the number is left
+  pub record Account (b : Far) (u : ℕ) : Type 0 where
+    pub cost : ℕ
+    pub used : u ≡ old.side.used + cost
+    pub once : (cost ≡ 0) ⊎ (cost ≡ first_charge (script_of old.top (given_of old.answer)) (realm_in old.side))
+    pub within : u ≤ old.outer.bound
+    pub low : floor b + frames_weight old.frames + 8 * (old.outer.bound - u) ≤ left_of old
 
-  -- all is over
-  pub record Stopping (was : Comes) (v : List Write) (u : ℕ) (name : StopName) (g : Held) : Type 0 where
-    pub used : g.side.used ≡ u
-    pub here : Here g.outer g.side
-    pub why : Why
-    pub calls : ℕ
-    pub is : IsWhy name why g.side
-    pub least : ℕ
-    pub same : (D : ℕ) (ds : List ℕ) → least ≤ D → was D ds ≡ over why (place_of g calls) (world_of z v g)
+  -- as the step begins it has paid nothing, and its first charge is still that of the script
+  abbrev pub AtFirst : Far → Side → language.Steps → Type 0
+  AtFirst b x s = b ≡ Fresh → (x.used ≡ old.side.used) × PaysFirst s × (first_charge s (realm_in x) ≡ first_charge (script_of old.top (given_of old.answer)) (realm_in old.side))
 
-  abbrev pub GoesTo : Bool → Comes → List Write → ℕ → Held → Type 0
-  GoesTo paid was v u g = Facts paid u g × Same was v g
+  -- what a step does that is so far, with this script: it leaves what stands outside the realm that runs as it is, and comes to no cut
+  abbrev pub Does : Far → Side → ℕ → language.Steps → Type 0
+  Does b x k s =
+      (new.outer ≡ old.outer) × (n ≡ next.CutOff → ⊥)
+      × ((m : Course old) → Account b x.used → AtFirst b x s → Still m x (at m x k s) → In m (Keeps old new n))
 
-  abbrev pub Came : Bool → Comes → List Write → ℕ → Next → Held → Type 0
-  Came paid was v u next.Going new = GoesTo paid was v u new
-  Came paid was v u next.Ended new = GoesTo paid was v u (below new.frames new)
-  Came paid was v u (next.Print text) new = GoesTo paid was (v ++ Printed text ∷ []) u (printed text new)
-  Came paid was v u (next.Halt name) new = Stopping was v u name new
-  Came paid was v u next.CutOff new = ⊥
+  -- a step of the script leads to another, and the next steps do what is told
+  via : (b : Far) (x x' : Side) (k k' : ℕ) (s s' : language.Steps) → x.used ≡ x'.used → (AtFirst b x s → AtFirst b x' s') →
+      ((m : Course old) → Still m x (at m x k s) → Still m x' (at m x' k' s')) → Does b x' k' s' → Does b x k s
+  via b x x' k k' s s' u first e r = (r.0, r.1, λ m c f w. r.2 m (subst (Account b) u c) (first f) (e m w))
 
-  -- another script, at a depth that is less by i
-  module _ (i j : ℕ) (was is : Comes) (e : (D : ℕ) (ds : List ℕ) → j ≤ D → was D ds ≡ is (D - i) ds) where
-    same_at : (v : List Write) (g : Held) → Same is v g → Same was v g
-    same_at v g m = record {
-      offsets = map (λ j. i + j) m.offsets;
-      along = (let a = m.along in omega (arith, a, length-map m.offsets (λ j. i + j)));
-      least = i + j + m.least;
-      same = λ D ds le len. e D ds (omega (arith, le)) ∙ m.same (D - i) ds (omega (arith, le)) len ∙ ap (λ os. comes read o.bound z v g (os ++ ds)) (sym (shifted i m.offsets D));
-    }
+  -- here the step of the frame ends
+  ends_so : (b : Far) (x : Side) (k : ℕ) (s : language.Steps) (a : Next) → n ≡ a → (a ≡ next.CutOff → ⊥) → new.outer ≡ old.outer →
+      ((m : Course old) → Account b x.used → AtFirst b x s → Still m x (at m x k s) → In m (Keeps old new a)) → Does b x k s
+  ends_so b x k s a is uncut outer go = (outer, λ e. uncut (sym is ∙ e), λ m c f w. subst (λ n. In m (Keeps old new n)) (sym is) (go m c f w))
 
-    pub came_at : (paid : Bool) (v : List Write) (u : ℕ) (n : Next) (new : Held) → Came paid is v u n new → Came paid was v u n new
-    came_at paid v u next.Going new c = (c.0, same_at v new c.1)
-    came_at paid v u next.Ended new c = (c.0, same_at v (below new.frames new) c.1)
-    came_at paid v u (next.Print text) new c = (c.0, same_at (v ++ Printed text ∷ []) (printed text new) c.1)
-    came_at paid v u (next.Halt name) new c = record {
-      used = c.used;
-      here = c.here;
-      why = c.why;
-      calls = c.calls;
-      is = c.is;
-      least = i + j + c.least;
-      same = λ D ds le. e D ds (omega (arith, le)) ∙ c.same (D - i) ds (omega (arith, le));
-    }
-    came_at paid v u next.CutOff new c = absurd c
+  abbrev held : Side → Answer → Frame → List Frame → Held
+  held x a t fs = record { side = x; outer = old.outer; answer = a; top = t; frames = fs }
 
--- an end is what the frame below is given
-module _ (read : Text → Reading) (z : Tapes) (o : Outer) (paid : Bool) (v : List Write) (x : Side) (k : ℕ) (here : Here o x) where
-  end_same : (f : Frame) (fs : List Frame) (c : code.Completion) (y : Completion) → completion_of c ≡ y → (D : ℕ) (ds : List ℕ) → length ds ≡ suc (length fs) →
-      from read z o v (f ∷ fs) x k (Give y) D ds ≡ comes read o.bound z v (record { side = x; outer = o; answer = answer.Done c; top = f; frames = fs }) ds
-  end_same f fs c y e D [] len = absurd (omega (arith, len))
-  end_same f fs c y e D (d ∷ ds) len = sym (λ i. above read o.bound (place_in o x) (world_in z v o x) f.calls (script_of f (Ended (e i))) d fs ds)
-
-  ended_by : (us : List Frame) (t : Frame) (a : Answer) (y : Completion) → IsEnd a y → Busy us →
-      GoesTo read z o us paid (from read z o v us x k (Give y)) v x.used (below us (record { side = x; outer = o; answer = a; top = t; frames = us }))
-  ended_by us t answer.Empty y e waits = absurd e
-  ended_by [] t (answer.Done c) y e waits = (
-    record { outer = refl; used = refl; here = here; ready = tt; waits = tt; rest = λ e. refl; low = omega arith },
-    record {
-      offsets = 0 ∷ [];
-      along = omega arith;
-      least = 0;
-      same = λ D ds le len. sym (λ i. let r : LiveRan Holds = Done (world_in z v o x) (e i) in r);
-    },
-  )
-  ended_by (f ∷ fs) t (answer.Done c) y e waits = (
-    record { outer = refl; used = refl; here = here; ready = tt; waits = waits.1; rest = λ e. not_both (is_idle f.activity) e waits.0; low = omega arith },
-    record { offsets = []; along = omega arith; least = 0; same = λ D ds le len. end_same f fs c y e D ds len },
-  )
-
-  pub ends : (under : List Frame) (n : Next) (new : Held) (y : Completion) → Busy under → n ≡ next.Ended → IsEnd new.answer y → new.side ≡ x → new.outer ≡ o → new.frames ≡ under → Came read z o under paid (from read z o v under x k (Give y)) v x.used n new
-  ends under n new y waits is e side outer frames =
-      subst (λ (n : Next). Came read z o under paid (from read z o v under x k (Give y)) v x.used n new) (sym is)
-      (subst (λ (g : Held). GoesTo read z o under paid (from read z o v under x k (Give y)) v x.used (below g.frames g))
-      (sym (λ i. let g : Held = record { side = side i; outer = outer i; answer = new.answer; top = new.top; frames = frames i } in g))
-      (ended_by under new.top new.answer y e waits))
-
--- a charge of a run: no cut is next
-pub charged : {R : Type 0} → (o : Outer) → o.cut ≡ None → (n : Next) (new : Held) (c : ℕ) (x : Side) (A : Type 0) → Charged c o x n new A → (room_in o.bound x c ≡ true → A → R) → (room_in o.bound x c ≡ false → Stops (next.Halt (stop.Steps x.used c)) o x n new → R) → R
-charged {R} o no_cut n new c x A g go halt = by (room_in o.bound x c) refl (subst (λ b. Where b (Stops next.CutOff o x n new) (Where (room_in o.bound x c) A (Stops (next.Halt (stop.Steps x.used c)) o x n new))) (ap (λ y. cut_at y (steps_in x)) no_cut) g)
-  where
-    by : (b : Bool) → room_in o.bound x c ≡ b → Where b A (Stops (next.Halt (stop.Steps x.used c)) o x n new) → R
-    by true e a = go e a
-    by false e a = halt e a
-
-abbrev pub IsHalt : Next → Type 0
-IsHalt (next.Halt name) = Unit {0}
-IsHalt n = ⊥
-
--- how far a step is that was given an end or has paid
-abbrev pub far : Bool → Far
-far true = Paid
-far false = Resumed
-
-pay_later : (b : Bool) (A B : Type 0) → on_pay (far b) A B → B
-pay_later true A B h = h
-pay_later false A B h = h
-
-line_later : (b : Bool) (A : Type 0) → on_line (far b) A → (b ≡ true) × A
-line_later true A h = (refl, h)
-line_later false A h = absurd h
-
-part_later : {R : Type 0} → (b : Bool) (y : Option Operand) (E : Operand → Type 0) (S B : Type 0) → on_part y (far b) E S B → (B → R) → ((w : Operand) → y ≡ Some w → S → R) → R
-part_later b None E S B h begins stays = begins h
-part_later true (Some w) E S B h begins stays = stays w refl h
-part_later false (Some w) E S B h begins stays = stays w refl h
-
-module _ (read : Text → Reading) (z : Tapes) (o : Outer) (no_cut : o.cut ≡ None) (under : List Frame) (waits : Busy under) (v : List Write) (n : Next) (new : Held) (stays : Stay) (stands : (k : ℕ) (f : Frame) (g : Given) (P : language.Steps → Type 0) → stays k f g P → Stands k f g P) where
-  abbrev was : Side → ℕ → language.Steps → Comes read z o under
-  was x k s = from read z o v under x k s
-
-  abbrev pub CameAt : Bool → Side → ℕ → language.Steps → ℕ → Type 0
-  CameAt paid x k s u = Came read z o under paid (was x k s) v u n new
-
-  abbrev pub CameFrom : Bool → Side → ℕ → language.Steps → Type 0
-  CameFrom paid x k s = CameAt paid x k s x.used
-
-  abbrev To : Bool → Side → ℕ → language.Steps → List Write → Held → Type 0
-  To paid x k s vs g = GoesTo read z o under paid (was x k s) vs x.used g
-
-  abbrev SameAs : Side → ℕ → language.Steps → List Write → Held → Type 0
-  SameAs x k s vs g = Same read z o under (was x k s) vs g
-
-  alike : (j : ℕ) (paid : Bool) (x x' : Side) (k k' u : ℕ) (s s' : language.Steps) → ((D : ℕ) (ds : List ℕ) → j ≤ D → was x k s D ds ≡ was x' k' s' D ds) → CameAt paid x' k' s' u → CameAt paid x k s u
-  alike j paid x x' k k' u s s' e = came_at read z o under 0 j (was x k s) (was x' k' s') (λ D ds le. e D ds le ∙ ap (λ d. was x' k' s' d ds) (let a : D ≡ D - 0 = omega arith in a)) paid v u n new
-
-  abbrev held : Side → List Frame → Held
-  held x fs = record { side = x; outer = o; answer = answer.Empty; top = new.top; frames = fs }
-
-  held_is : (x : Side) (fs : List Frame) → Left o x new → new.frames ≡ fs → held x fs ≡ new
-  held_is x fs left frames = sym (λ i. let g : Held = record { side = left.0 i; outer = left.2 i; answer = left.1 i; top = new.top; frames = frames i } in g)
+  -- the new state, by what it has
+  as_is : (x : Side) (a : Answer) (fs : List Frame) → new.side ≡ x → new.answer ≡ a → new.outer ≡ old.outer → new.frames ≡ fs → held x a new.top fs ≡ new
+  as_is x a fs side given outer frames =
+      sym (λ i. let g : Held = record { side = side i; outer = outer i; answer = given i; top = new.top; frames = frames i } in g)
 
   -- the run is over
-  stops : (paid : Bool) (x : Side) (k : ℕ) (s : language.Steps) (name : StopName) (why : Why) → Here o x → Stops (next.Halt name) o x n new → IsWhy name why x → (j : ℕ) → ((D : ℕ) (ds : List ℕ) → j ≤ D → was x k s D ds ≡ over why (place_in o x k) (world_in z v o x)) → CameFrom paid x k s
-  stops paid x k s name why here g w j e = subst (λ (n : Next). Came read z o under paid (was x k s) v x.used n new) (sym g.0) (record {
-    used = ap (λ (y : Side). y.used) g.1;
-    here = subst (λ (y : Side). Here new.outer y) (sym g.1) (subst (λ (p : Outer). Here p x) (sym g.2) here);
-    why = why;
-    calls = k;
-    is = subst (IsWhy name why) (sym g.1) w;
-    least = j;
-    same = λ D ds le. e D ds le ∙ sym (λ i. over why (place_in (g.2 i) (g.1 i) k) (world_in z v (g.2 i) (g.1 i)));
-  })
+  stops : (b : Far) (x : Side) (k : ℕ) (s : language.Steps) (name : StopName) (why : Why) → Stops (next.Halt name) old.outer x n new → IsWhy name why x →
+      ((m : Course old) → Still m x (at m x k s) → Still m x (λ d n. over why (place_in old.outer x k) (world m x))) → Does b x k s
+  stops b x k s name why g is e =
+      ends_so b x k s (next.Halt name) g.0 (λ e. cc) g.2
+      (λ m c f w. let r = e m w in
+      subst (λ g. In m (Halts name old g)) (as_is x new.answer new.frames g.1 refl g.2 refl)
+      (why, k, is, (c.cost, c.used, c.once), r.here, r.least, r.same))
 
-  halt_is : (a : Next) (y : Stop) → HaltsBy a y → (name : StopName) × (a ≡ next.Halt name) × IsStop name y
-  halt_is (next.Halt name) y h = (name, refl, h)
-  halt_is a y h = absurd h
+  -- what a charge does, by whether there is room for it
+  abbrev Paying : Side → ℕ → Type 0 → Bool → Type 0
+  Paying x c A b = Where b A (Stops (next.Halt (stop.Steps x.used (suc c))) old.outer x n new)
 
-  halts : (paid : Bool) (x : Side) (k : ℕ) (y : Stop) (name : StopName) → Here o x → Stops (next.Halt name) o x n new → IsStop name y → CameFrom paid x k (Halt y)
-  halts paid x k y name here g h = stops paid x k (Halt y) name (Stopped y) here g (stop_why name y x h) 0 (λ D ds le. refl)
+  -- a first charge: no cut is next in a run
+  pays_first : (x : Side) (k c j : ℕ) (s s' : language.Steps) → suc c ≡ first_charge s (realm_in x) →
+      ((m : Course old) → Still m x (at m x k s) → Still m x (paying m x k c j s')) →
+      (A : Type 0) → Charged (suc c) old.outer x n new A → (A → Does Paid (pay_in (suc c) x) j s') → Does Fresh x k s
+  pays_first x k c j s s' first owes A g go =
+      by (room_in old.outer.bound x (suc c)) refl
+      (subst (λ b. Where b (Stops next.CutOff old.outer x n new) (Paying x c A (room_in old.outer.bound x (suc c)))) (ap (λ y. cut_at y (steps_in x)) no_cut) g)
+    where
+      by : (b : Bool) → room_in old.outer.bound x (suc c) ≡ b → Paying x c A b → Does Fresh x k s
+      by false room h = stops Fresh x k s (stop.Steps x.used (suc c)) (live.Steps (suc c)) h (refl, refl) (λ m w. refuses m x k c j s' room (owes m w))
+      by true room h =
+          let r = go h in
+          let fits = leb-true (x.used + suc c) old.outer.bound room in (
+            r.0,
+            r.1,
+            λ m a f w. let q = f refl in let low = a.low in
+                r.2 m (record { cost = suc c; used = ap (λ u. u + suc c) q.0; once = inr (first ∙ q.2); within = fits; low = omega (arith, low, fits) })
+                (λ e. absurd (paid_before e)) (pays m x k c j s' room (owes m w)),
+          )
 
-  module _ (paid : Bool) (x : Side) (k : ℕ) (here : Here o x) where
-    going : (s : language.Steps) (fs : List Frame) → n ≡ next.Going → Left o x new → new.frames ≡ fs → is_idle new.top.activity ≡ false → PaysFirst (script_of new.top Began) → Busy fs → frames_weight fs ≤ 2 + frames_weight under → SameAs x k s v (held x fs) → CameFrom paid x k s
-    going s fs is left frames busy pays waits most same =
-        subst (λ (n : Next). Came read z o under paid (was x k s) v x.used n new) (sym is)
-        (subst (To paid x k s v) (held_is x fs left frames) (
-          record {
-            outer = refl;
-            used = refl;
-            here = here;
-            ready = pays;
-            waits = waits;
-            rest = λ e. not_both (is_idle new.top.activity) e busy;
-            low = (let a = ap frame_weight busy in omega (arith, a, most));
-          },
-          same,
-        ))
+  enters_first : (x : Side) (k : ℕ) (s : language.Steps) (b : Bool) → may_enter k ≡ b →
+      (A : Type 0) → Where b (Charged 1 old.outer x n new A) (Stops (next.Halt stop.CallDepth) old.outer x n new) →
+      (A → Does Paid (pay_in 1 x) (suc k) s) → Does Fresh x k (Enter s)
+  enters_first x k s true may A g go = pays_first x k 0 (suc k) (Enter s) s refl (λ m w. enters m x k s may w) A g go
+  enters_first x k s false may A g go =
+      stops Fresh x k (Enter s) stop.CallDepth (Stopped CallDepth) g (CallDepth, refl, refl)
+      (λ m w. onward m x x _ _ w.here (λ d n. exact m x k (Enter s) d n ∙ rw may refl) w)
 
-    -- the frame on top goes on
-    goes_on : (s : language.Steps) → PaysFirst s → (n ≡ next.Going) × Left o x new × Stands k new.top Began (Is s) × (new.frames ≡ under) → CameFrom paid x k s
-    goes_on s pays g =
-        (let b = g.2 in
-        going s under g.0 g.1 g.3 b.0 (subst PaysFirst (sym b.2) pays) waits (omega arith) (record {
-          offsets = 0 ∷ [];
-          along = omega arith;
-          least = 0;
-          same = λ D ds le len. sym (λ i. above read o.bound (place_in o x) (world_in z v o x) (b.1 i) (b.2 i) ((let a : D - 0 ≡ D = omega arith in a) i) under ds);
-        }))
+  -- a literal or a name that is a part is paid for and evaluated in its place
+  evaluates : (x : Side) (k a e : ℕ) (t : Tree) (s : Completion → language.Steps) (y : Operand) → operand_of t ≡ Some y →
+      (A : Type 0) → Charged 1 old.outer x n new A → (let x' = begun_in a t.from x in A → Does Paid x' k (s (end_of y (realm_in x')))) →
+      Does Fresh x k (Part (Run a e t) s)
+  evaluates x k a e t s y is A g go =
+      let f = marked a t.from in
+      let rest = then_follow (operand_script y) s in
+      let x' = begun_in a t.from x in
+      via Fresh x x k k (Part (Run a e t) s) (Pay 0 (Change f rest)) refl (λ q e. let r = q e in (r.0, tt, sym (ap operand_charge is) ∙ r.2))
+      (λ m w. in_place m x k a e t y is s w)
+      (pays_first x k 0 k (Pay 0 (Change f rest)) (Change f rest) refl (λ m w. charges m x k 0 (Change f rest) w) A g
+      (λ h. via Paid (pay_in 1 x) x' k k (Change f rest) (s (end_of y (realm_in x'))) refl (λ q e. absurd (paid_before e))
+      (λ m w. operand_follows m x' k y s (changes m (pay_in 1 x) k f rest w)) (go h)))
 
-    goes_on_by : (s : language.Steps) → PaysFirst s → Goes stays under o x k (Is s) n new → CameFrom paid x k s
-    goes_on_by s pays g = goes_on s pays (g.0, g.1, stands k new.top Began (Is s) g.2, g.3)
+  -- the machine goes on with a state of which the run still comes to the same
+  moves : (m : Course old) (b : Far) (x : Side) (u : ℕ) (a : Answer) (t : Frame) (fs : List Frame) (text : Option Text) → x.used ≡ u →
+      Here old.outer x → Account b u → Ready t a → Busy fs → (AtRest (held x a t fs) → fs ≡ []) →
+      frames_weight (t ∷ fs) + answer_weight a < floor b + frames_weight old.frames →
+      (os : List ℕ) → length os ≡ suc (length fs) → (least : ℕ) →
+      ((n : ℕ) → least ≤ n → m.meaning n ≡ comes m.read old.outer.bound m.tapes (m.written ++ writes_of text) (held x a t fs) (depths os n)) →
+      In m (Moves text old (held x a t fs))
+  moves m b x u a t fs text e here c ready waits rest low os along least same = (
+    record {
+      sound = record { here = here; live = no_cut; bounded = refl; within = (let r = c.within in omega (arith, e, r)); ready = ready; waits = waits; rest = rest };
+      offsets = os;
+      along = along;
+      least = least;
+      same = same;
+    },
+    (let r = c.low in omega (arith, e, r, low)),
+    (c.cost, e ∙ c.used, c.once),
+  )
 
-    goes_on_part : (t : language.Work) (s : Completion → language.Steps) → PaysFirst (Part t s) → Goes stays under o x k (IsPart t s) n new → CameFrom paid x k (Part t s)
-    goes_on_part t s pays g = (let b = stands k new.top Began (IsPart t s) g.2 in goes_on (Part t s) pays (g.0, g.1, (b.0, b.1, is_part t s (script_of new.top Began) b.2), g.3))
+  -- the frame on top goes on
+  goes_on : (b : Far) (x : Side) (k : ℕ) (s : language.Steps) → (AtFirst b x s → 5 ≤ floor b) → n ≡ next.Going → Left old.outer x new → new.frames ≡ old.frames →
+      ((m : Course old) → (s' : language.Steps) × PaysFirst s' × Stands k new.top Began (Is s') × (Still m x (at m x k s) → Still m x (at m x k s'))) → Does b x k s
+  goes_on b x k s late is left frames go =
+      ends_so b x k s next.Going is (λ e. cc) left.2
+      (λ m c f w.
+      let r = go m in
+      let st = r.2 in
+      let w' = r.3 w in
+      subst (λ g. In m (Moves None old g)) (as_is x answer.Empty old.frames left.0 left.1 left.2 frames)
+      (moves m b x x.used answer.Empty new.top old.frames None refl w.here c (subst PaysFirst (sym st.2) r.1) m.waits (λ e. not_both e st.0)
+      (let busy = ap frame_weight st.0 in let enough = late f in omega (arith, busy, enough)) (w'.offset ∷ m.offsets) (ap suc m.along) w'.least
+      (λ n le. w'.same n le ∙ sym (λ i. within m x (world_in m.tapes (append-nil m.written i) old.outer x) (st.1 i) (st.2 i) (n - w'.offset) n))))
 
+  -- it has ended, and the frame below is given the end
+  ended : (m : Course old) (b : Far) (x : Side) (k : ℕ) (y : Completion) → 5 ≤ floor b → Account b x.used → Here old.outer x →
+      (us : List Frame) (os : List ℕ) → length os ≡ length us → Busy us → frames_weight us ≡ frames_weight old.frames → (p least : ℕ) →
+      ((n : ℕ) → least ≤ n → m.meaning n ≡ above m.read old.outer.bound (place_in old.outer x) (world m x) k (Give y) (n - p) us (depths os n)) →
+      (a : Answer) → IsEnd a y → In m (Moves None old (below us (held x a new.top us)))
+  ended m b x k y late c here us os along waits weight p least same answer.Empty e = absurd e
+  ended m b x k y late c here [] os along waits weight p least same (answer.Done o) e =
+      moves m b x x.used (answer.Done o) idle [] None refl here c tt tt (λ e. refl) (omega (arith, weight, late)) (0 ∷ []) refl least
+      (λ n le. same n le ∙ sym (λ i. let r : LiveRan Holds = Done (world_in m.tapes (append-nil m.written i) old.outer x) (e i) in r))
+  ended m b x k y late c here (f ∷ us) [] along waits weight p least same (answer.Done o) e = absurd (omega (arith, along))
+  ended m b x k y late c here (f ∷ us) (j ∷ os) along waits weight p least same (answer.Done o) e =
+      moves m b x x.used (answer.Done o) f us None refl here c tt waits.1 (λ e. not_both e waits.0) (omega (arith, weight, late)) (j ∷ os) along least
+      (λ n le. same n le
+      ∙ sym (λ i. above m.read old.outer.bound (place_in old.outer x) (world_in m.tapes (append-nil m.written i) old.outer x) f.calls (script_of f (Ended (e i))) (n - j) us (depths os n)))
+
+  module _ (stays : Stay) (stands : (k : ℕ) (f : Frame) (g : Given) (P : language.Steps → Type 0) → stays k f g P → Stands k f g P) where
     -- a part begins above it
-    part_same : (t : language.Work) (s : Completion → language.Steps) (f : Frame) → IsBegun read t k new.top → ((e : Completion) → Stands k f (Ended e) (Is (s e))) → (D : ℕ) (ds : List ℕ) → 1 ≤ D →
-        was x k (Part t s) D ds ≡ comes read o.bound z v (held x (f ∷ under)) ((D - 1) ∷ (D - 0) ∷ ds)
-    part_same t s f b q zero ds le = absurd (omega (arith, le))
-    part_same t s f b q (suc d) ds le =
-        (let a = all_steps read z o v under in
-        let low = waiting (place_in o x) under ds in
-        let calls = (let r = q (Normal None) in r.1) in
-        a.exact (suc d) (place_in o x k) (world_in z v o x) (Part t s) low
-        ∙ sym (λ i. live_means (language read) o.bound (top ((let e : suc d - 1 ≡ d = omega arith in e) i) (place_in o x (b.calls i)) (world_in z v o x) (b.script i)
-        (Waits ((let e : suc d - 0 ≡ suc d = omega arith in e) i) (place_in o x (calls i)) (λ e. let r = q e in r.2 i) ∷ low))))
+    begins : (b : Far) (x : Side) (k : ℕ) (t : language.Work) (s : Completion → language.Steps) → (AtFirst b x (Part t s) → 5 ≤ floor b) →
+        n ≡ next.Going → Left old.outer x new → IsFresh t k new.top → (fs : List Frame) → new.frames ≡ fs →
+        OnOne fs (λ f fs. ((e : Completion) → stays k f (Ended e) (Is (s e))) × (fs ≡ old.frames)) → Does b x k (Part t s)
+    begins b x k t s late is left fresh [] frames on = absurd on
+    begins b x k t s late is left fresh (f ∷ fs) frames on =
+        ends_so b x k (Part t s) next.Going is (λ e. cc) left.2
+        (λ m c first w.
+        let new_is = begun m.read t k new.top fresh in
+        let st = λ (e : Completion). stands k f (Ended e) (Is (s e)) (on.0 e) in
+        let waits = st (Normal None) in
+        let w' = deep m x (at m x k (Part t s)) w in
+        subst (λ g. In m (Moves None old g)) (as_is x answer.Empty (f ∷ old.frames) left.0 left.1 left.2 (frames ∙ ap (λ us. f ∷ us) on.1))
+        (moves m b x x.used answer.Empty new.top (f ∷ old.frames) None refl w.here c (subst PaysFirst (sym new_is.script) (fresh_pays m.read t k new.top fresh))
+        (waits.0, m.waits) (λ e. not_both e new_is.busy)
+        (let busy = ap frame_weight new_is.busy in let also = ap frame_weight waits.0 in let enough = late first in omega (arith, busy, also, enough))
+        (w'.offset ∷ w.offset ∷ m.offsets) (ap (λ n. suc (suc n)) m.along) w'.least
+        (λ n le. let e : n - w.offset ≡ suc (n - suc w.offset) = omega (arith, le) in
+        w'.same n le ∙ exact m x k (Part t s) (suc (n - suc w.offset)) n
+        ∙ sym (λ i. let place = place_in old.outer x in
+        live_means (language m.read) old.outer.bound (top (n - suc w.offset) (place (new_is.calls i)) (world_in m.tapes (append-nil m.written i) old.outer x) (new_is.script i)
+        (Waits (e i) (place (waits.1 i)) (λ e. let r = st e in r.2 i) ∷ under m x n))))))
 
-    begins : (t : language.Work) (s : Completion → language.Steps) → Begins stays under o x k t s n new → CameFrom paid x k (Part t s)
-    begins t s g = by new.frames refl g.3
-      where
-        by : (fs : List Frame) → new.frames ≡ fs → OnOne fs (λ f fs. ((e : Completion) → stays k f (Ended e) (Is (s e))) × (fs ≡ under)) → CameFrom paid x k (Part t s)
-        by [] frames on = absurd on
-        by (f ∷ fs) frames on =
-            let b = begun read t k new.top g.2 in
-            let q = λ (e : Completion). stands k f (Ended e) (Is (s e)) (on.0 e) in
-            let busy = (let r = q (Normal None) in r.0) in
-            going (Part t s) (f ∷ under) g.0 g.1 (frames ∙ ap (λ us. f ∷ us) on.1) b.busy (subst PaysFirst (sym b.script) (fresh_pays read t k new.top g.2)) (busy, waits) (let a = ap frame_weight busy in omega (arith, a)) (record {
-              offsets = 1 ∷ 0 ∷ [];
-              along = omega arith;
-              least = 1;
-              same = λ D ds le len. part_same t s f b q D ds le;
-            })
+    -- a step that was given an end or has paid stays where it comes to a charge
+    stays_put : (b : Far) (x : Side) (k : ℕ) (s : language.Steps) → 5 ≤ floor b → PaysFirst s → Goes stays old.frames old.outer x k (Is s) n new → Does b x k s
+    stays_put b x k s late pays g = goes_on b x k s (λ f. late) g.0 g.1 g.3 (λ m. (s, pays, stands k new.top Began (Is s) g.2, λ w. w))
 
-    -- it becomes another task
-    task_same : (t : language.Work) → IsBegun read t k new.top → (D : ℕ) (ds : List ℕ) → 1 ≤ D → was x k (Become t) D ds ≡ comes read o.bound z v (held x under) ((D - 1) ∷ ds)
-    task_same t b zero ds le = absurd (omega (arith, le))
-    task_same t b (suc d) ds le =
-        (let a = all_steps read z o v under in
-        a.exact (suc d) (place_in o x k) (world_in z v o x) (Become t) (waiting (place_in o x) under ds)
-        ∙ sym (λ i. above read o.bound (place_in o x) (world_in z v o x) (b.calls i) (b.script i) ((let e : suc d - 1 ≡ d = omega arith in e) i) under ds))
+    module _ (m : Further) (known : (b : Far) (x : Side) (k : ℕ) (y : language.Operation) → m b x k y n new → Does b x k (Become (Operate y))) where
+      walk : (b : Far) (s : language.Steps) (x : Side) (k : ℕ) → goes m b s stays old.frames old.outer x k n new → Does b x k s
+      walk b (Give y) x k g =
+          ends_so b x k (Give y) next.Ended g.0 (λ e. cc) g.3
+          (λ m c f w. subst (λ (g : Held). In m (Moves None old (below g.frames g))) (as_is x new.answer old.frames g.2 refl g.3 g.4)
+          (ended m b x k y (later b (λ e. (f e).1)) c w.here old.frames m.offsets m.along m.waits refl w.offset w.least w.same new.answer g.1))
+      walk b (Halt y) x k g = (let h = halt_is n y x g.0 in stops b x k (Halt y) h.0 (Stopped y) (h.1, g.1, g.2) h.2 (λ m w. onward m x x _ _ w.here (λ d n. refl) w))
+      walk b (Look f) x k g =
+          via b x x k k (Look f) (f (realm_in x)) refl (λ a e. let q = a e in (q.0, q.1 (realm_in x), q.2)) (λ m w. looks m x k f w) (walk b (f (realm_in x)) x k g)
+      walk b (Change f s) x k g = via b x (change_in f x) k k (Change f s) s refl (λ a. a) (λ m w. changes m x k f s w) (walk b s (change_in f x) k g)
+      walk Fresh (Pay c s) x k g = pays_first x k c k (Pay c s) s refl (λ m w. charges m x k c s w) _ g (walk Paid s (pay_in (suc c) x) k)
+      walk b (Pay c s) x k g = stays_put b x k (Pay c s) (omega arith) tt g
+      walk Fresh (Enter s) x k g = enters_first x k s (may_enter k) refl _ g (walk Paid s (pay_in 1 x) (suc k))
+      walk b (Enter s) x k g = stays_put b x k (Enter s) (omega arith) tt g
+      walk Paid (Line text s) x k g =
+          let left = g.1 in
+          let st = stands k new.top (Ended (Normal None)) (Is s) (g.2 (Normal None)) in
+          let o = old.outer in
+          ends_so Paid x k (Line text s) (next.Print text) g.0 (λ e. cc) left.2
+          (λ m c f w. subst (λ g. In m (Moves (Some text) old (printed text g))) (as_is x answer.Empty old.frames left.0 left.1 left.2 g.3)
+          (moves m Paid (line_in text x) x.used (answer.Done (completion.Normal None)) new.top old.frames (Some text) refl (here_along o x (with_line text) refl w.here) c tt m.waits
+          (λ e. not_both e st.0) (let busy = ap frame_weight st.0 in omega (arith, busy)) (w.offset ∷ m.offsets) (ap suc m.along) w.least
+          (λ n le. w.same n le ∙ ap (λ v. within m x v k s (n - w.offset) n) (sym (line_is m.tapes o x w.here m.written text))
+          ∙ sym (λ i. let v = m.written ++ Printed text ∷ [] in
+          above m.read o.bound (places_along o x (with_line text) refl i) (world_in m.tapes v o (line_in text x)) (st.1 i) (st.2 i) (n - w.offset) old.frames (depths m.offsets n)))))
+      walk b (Line text s) x k g = absurd g
+      walk b (Part (Run a e t) s) x k g =
+          on_operand b (operand_of t) _ _ _ g
+          (λ y is first h. let x' = begun_in a t.from x in
+          subst (λ b. Does b x k (Part (Run a e t) s)) (sym first) (evaluates x k a e t s y is _ h (walk Paid (s (end_of y (realm_in x'))) x' k)))
+          (λ y is late h. let st = stands k new.top Began (IsPart (Run a e t) s) h.2 in
+          goes_on b x k (Part (Run a e t) s) (λ f. late) h.0 h.1 h.3
+          (λ m. (Part (Run a e t) s, ap operand_charge is, (st.0, st.1, is_part (Run a e t) s (script_of new.top Began) st.2), λ w. w)))
+          (λ none h. begins b x k (Run a e t) s (λ f. later b (λ e. let q = (f e).1 in let c = ap operand_charge none in omega (arith, q, c))) h.0 h.1 h.2 new.frames refl h.3)
+      walk b (Part t s) x k g = begins b x k t s (λ f. later b (λ e. (f e).1)) g.0 g.1 g.2 new.frames refl g.3
+      walk b (Become (Operate y)) x k g = known b x k y g
+      walk b (Become t) x k g =
+          goes_on b x k (Become t) (λ f. later b (λ e. (f e).1)) g.0 g.1 g.3
+          (λ m. let is = begun m.read t k new.top g.2 in (row m.read t, fresh_pays m.read t k new.top g.2, (is.busy, is.calls, is.script), deep m x (at m x k (Become t))))
+      walk b s x k g = absurd g
 
-    becomes : (t : language.Work) → Becomes under o x k t n new → CameFrom paid x k (Become t)
-    becomes t g =
-        (let b = begun read t k new.top g.2 in
-        going (Become t) under g.0 g.1 g.3 b.busy (subst PaysFirst (sym b.script) (fresh_pays read t k new.top g.2)) waits (omega arith) (record {
-          offsets = 1 ∷ [];
-          along = omega arith;
-          least = 1;
-          same = λ D ds le len. task_same t b D ds le;
-        }))
-
-    -- a line, after a payment
-    prints : (text : Text) (s : language.Steps) → paid ≡ true → n ≡ next.Print text → Left o x new → ((e : Completion) → stays k new.top (Ended e) (Is s)) → new.frames ≡ under → CameFrom paid x k (Line text s)
-    prints text s pay is left q frames =
-        (let r = stands k new.top (Ended (Normal None)) (Is s) (q (Normal None)) in
-        let vs : List Write = v ++ Printed text ∷ [] in
-        subst (λ (n : Next). Came read z o under paid (was x k (Line text s)) v x.used n new) (sym is)
-        (subst (λ (g : Held). To paid x k (Line text s) vs (printed text g)) (held_is x under left frames) (
-          record {
-            outer = refl;
-            used = refl;
-            here = here_along o x (with_line text) refl here;
-            ready = tt;
-            waits = waits;
-            rest = λ e. not_both (is_idle new.top.activity) e r.0;
-            low = (let a = ap frame_weight r.0 in let b = ap more pay in omega (arith, a, b));
-          },
-          record {
-            offsets = 0 ∷ [];
-            along = omega arith;
-            least = 0;
-            same = λ D ds le len.
-                ap (λ w. above read o.bound (place_in o x) w k s D under ds) (sym (line_is z o x here v text))
-                ∙ sym (λ i. above read o.bound (places_along o x (with_line text) refl i) (world_in z vs o (line_in text x)) (r.1 i) (r.2 i) ((let a : D - 0 ≡ D = omega arith in a) i) under ds);
-          },
-        )))
-
-  module _ (m : Further) (known : (paid : Bool) (x : Side) (k : ℕ) (y : language.Operation) → Here o x → m (far paid) x k y n new → CameFrom paid x k (Become (Operate y))) where
-    -- after an end or a payment
-    pub later : (paid : Bool) (s : language.Steps) (x : Side) (k : ℕ) → Here o x → goes m (far paid) s stays under o x k n new → CameFrom paid x k s
-    later paid (Give y) x k here g = ends read z o paid v x k here under n new y waits g.0 g.1 g.2 g.3 g.4
-    later paid (Halt y) x k here g = (let h = halt_is n y g.0 in halts paid x k y h.0 here (h.1, g.1, g.2) h.2)
-    later paid (Look f) x k here g = alike 0 paid x x k k x.used (Look f) (f (realm_in x)) (λ D ds le. looks read z o v under x k D ds here f) (later paid (f (realm_in x)) x k here g)
-    later paid (Change f s) x k here g =
-        alike 0 paid x (change_in f x) k k x.used (Change f s) s (λ D ds le. changes read z o v under x k D ds here f s) (later paid s (change_in f x) k (here_along o x (with_inner f) refl here) g)
-    later paid (Pay c s) x k here g = goes_on_by paid x k here (Pay c s) tt (pay_later paid _ _ g)
-    later paid (Enter s) x k here g = goes_on_by paid x k here (Enter s) tt (pay_later paid _ _ g)
-    later paid (Line text s) x k here g = (let h = line_later paid _ g in let b = h.1 in prints paid x k here text s h.0 b.0 b.1 b.2 b.3)
-    later paid (Part (Run a e t) s) x k here g = part_later paid (operand_of t) _ _ _ g (begins paid x k here (Run a e t) s) (λ y is. goes_on_part paid x k here (Run a e t) s (ap operand_charge is))
-    later paid (Part t s) x k here g = begins paid x k here t s g
-    later paid (Become (Operate y)) x k here g = known paid x k y here g
-    later paid (Become t) x k here g = becomes paid x k here t g
-    later paid s x k here g = absurd g
-
-    -- as a step begins: the run is over, or the first charge of the script was paid
-    abbrev pub First : Side → ℕ → language.Steps → Type 0
-    First x k s = ((name : StopName) × (n ≡ next.Halt name) × CameFrom false x k s) ⊎ ((c : ℕ) × (suc c ≡ first_charge s (realm_in x)) × (x.used + suc c ≤ o.bound) × CameAt true x k s (x.used + suc c))
-
-    first_as : (x x' : Side) (k : ℕ) (s s' : language.Steps) → x'.used ≡ x.used → first_charge s' (realm_in x') ≡ first_charge s (realm_in x) → ((D : ℕ) (ds : List ℕ) → was x k s D ds ≡ was x' k s' D ds) → First x' k s' → First x k s
-    first_as x x' k s s' u e same (inl h) = inl (h.0, h.1, alike 0 false x x' k k x.used s s' (λ D ds le. same D ds) (subst (CameAt false x' k s') u h.2))
-    first_as x x' k s s' u e same (inr h) =
-        inr (h.0, h.1 ∙ e, (let a = h.2 in omega (arith, u, a)), alike 0 true x x' k k (x.used + suc h.0) s s' (λ D ds le. same D ds) (subst (λ u. CameAt true x' k s' (u + suc h.0)) u h.3))
-
-    first_over : (x : Side) (k : ℕ) (s : language.Steps) (name : StopName) (why : Why) → Here o x → IsWhy name why x → (j : ℕ) → ((D : ℕ) (ds : List ℕ) → j ≤ D → was x k s D ds ≡ over why (place_in o x k) (world_in z v o x)) → Stops (next.Halt name) o x n new → First x k s
-    first_over x k s name why here w j e g = inl (name, g.0, stops false x k s name why here g w j e)
-
-    -- a first charge, after which the rest goes on
-    first_pays : (x x' : Side) (k k' c j : ℕ) (s s' : language.Steps) → Here o x → Here o x' → x'.used ≡ x.used + suc c → suc c ≡ first_charge s (realm_in x) →
-        (room_in o.bound x (suc c) ≡ true → (D : ℕ) (ds : List ℕ) → j ≤ D → was x k s D ds ≡ was x' k' s' D ds) →
-        (room_in o.bound x (suc c) ≡ false → (D : ℕ) (ds : List ℕ) → j ≤ D → was x k s D ds ≡ over (live.Steps (suc c)) (place_in o x k) (world_in z v o x)) →
-        Charged (suc c) o x n new (goes m Paid s' stays under o x' k' n new) → First x k s
-    first_pays x x' k k' c j s s' here here' u first same none g =
-        charged o no_cut n new (suc c) x _ g
-        (λ room g. inr (c, first, leb-true (x.used + suc c) o.bound room, alike j true x x' k k' (x.used + suc c) s s' (same room) (subst (CameAt true x' k' s') u (later true s' x' k' here' g))))
-        (λ room. first_over x k s (stop.Steps x.used (suc c)) (live.Steps (suc c)) here (refl, refl) j (none room))
-
-    pub first : (s : language.Steps) (x : Side) (k : ℕ) → Here o x → PaysFirst s → goes m Fresh s stays under o x k n new → First x k s
-    first (Halt y) x k here pays g = (let h = halt_is n y g.0 in inl (h.0, h.1, halts false x k y h.0 here (h.1, g.1, g.2) h.2))
-    first (Look f) x k here pays g = first_as x x k (Look f) (f (realm_in x)) refl refl (λ D ds. looks read z o v under x k D ds here f) (first (f (realm_in x)) x k here (pays (realm_in x)) g)
-    first (Change f s) x k here pays g =
-        first_as x (change_in f x) k (Change f s) s refl refl (λ D ds. changes read z o v under x k D ds here f s) (first s (change_in f x) k (here_along o x (with_inner f) refl here) pays g)
-    first (Pay c s) x k here pays g =
-        first_pays x (pay_in (suc c) x) k k c 0 (Pay c s) s here (here_along o x (with_steps (suc c)) refl here) refl refl
-        (λ room D ds le. exact read z o v under x k D ds (Pay c s) ∙ rw room (paid read z o v under x k D ds here (suc c) k s)) (λ room D ds le. exact read z o v under x k D ds (Pay c s) ∙ rw room) g
-    first (Enter s) x k here pays g = by (may_enter k) refl g
-      where
-        by : (b : Bool) → may_enter k ≡ b → Where b (Charged 1 o x n new (goes m Paid s stays under o (pay_in 1 x) (suc k) n new)) (Stops (next.Halt stop.CallDepth) o x n new) → First x k (Enter s)
-        by false may g = first_over x k (Enter s) stop.CallDepth (Stopped CallDepth) here (CallDepth, refl, refl) 0 (λ D ds le. exact read z o v under x k D ds (Enter s) ∙ rw may) g
-        by true may g =
-            first_pays x (pay_in 1 x) k (suc k) 0 0 (Enter s) s here (here_along o x (with_steps 1) refl here) refl refl
-            (λ room D ds le. exact read z o v under x k D ds (Enter s) ∙ rw may (rw room (paid read z o v under x k D ds here 1 (suc k) s)))
-            (λ room D ds le. exact read z o v under x k D ds (Enter s) ∙ rw may (rw room)) g
-    first (Part (Run a e t) s) x k here pays g = by (operand_of t) refl g
-      where
-        by : (b : Option Operand) → operand_of t ≡ b → on_part b Fresh (λ y. Charged 1 o x n new (let x' = begun_in a t.from x in goes m Paid (s (end_of y (realm_in x'))) stays under o x' k n new))
-            (Goes stays under o x k (IsPart (Run a e t) s) n new) (Begins stays under o x k (Run a e t) s n new) → First x k (Part (Run a e t) s)
-        by None is g = absurd (let c = ap operand_charge is in omega (arith, c, pays))
-        by (Some y) is g =
-            (let x' = begun_in a t.from x in
-            first_pays x x' k k 0 1 (Part (Run a e t) s) (s (end_of y (realm_in x'))) here (here_along o (pay_in 1 x) (with_inner (marked a t.from)) refl (here_along o x (with_steps 1) refl here)) refl (sym pays)
-            (evaluates read z o v under x k a e t y is s here) (operand_refused read z o v under x k a e t y is s) g)
-    first (Part (Apply f this args) s) x k here pays g = absurd pays
-    first s x k here pays g = absurd pays
-
-  -- the row of an operation goes on in the same step
-  operation_same : (x : Side) (k : ℕ) (y : language.Operation) (D : ℕ) (ds : List ℕ) → 1 ≤ D → was x k (Become (Operate y)) D ds ≡ was x k (operation y) (D - 1) ds
-  operation_same x k y zero ds le = absurd (omega (arith, le))
-  operation_same x k y (suc d) ds le =
-      (let a = all_steps read z o v under in
-      a.exact (suc d) (place_in o x k) (world_in z v o x) (Become (Operate y)) (waiting (place_in o x) under ds) ∙ ap (λ d. was x k (operation y) d ds) (let e : d ≡ suc d - 1 = omega arith in e))
-
-  known : (paid : Bool) (x : Side) (k : ℕ) (y : language.Operation) → Here o x → further operation stays under o (far paid) x k y n new → CameFrom paid x k (Become (Operate y))
-  known paid x k y here g =
-      came_at read z o under 1 1 (was x k (Become (Operate y))) (was x k (operation y)) (operation_same x k y) paid v x.used n new
-      (later nowhere (λ paid x k y here g. absurd g) paid (operation y) x k here g)
-
-  -- a step of a script: what it paid, and how the weight falls
-  pub record Taken (x : Side) (k : ℕ) (s : language.Steps) (weight : ℕ) : Type 0 where
-    pub paid : Bool
-    pub cost : ℕ
-    pub once : (cost ≡ 0) ⊎ (cost ≡ first_charge s (realm_in x))
-    pub room : x.used + cost ≤ o.bound
-    pub falls : IsHalt n ⊎ (limit paid + frames_weight under + 8 * (o.bound - (x.used + cost)) ≤ weight)
-    pub came : CameAt paid x k s (x.used + cost)
-
-  unpaid : (x : Side) (k : ℕ) (s : language.Steps) (weight : ℕ) → x.used ≤ o.bound → CameFrom false x k s → IsHalt n ⊎ (5 + frames_weight under + 8 * (o.bound - x.used) ≤ weight) → Taken x k s weight
-  unpaid x k s weight within c low =
-      (let e : x.used ≡ x.used + 0 = omega arith in
-      record {
-        paid = false;
-        cost = 0;
-        once = inl refl;
-        room = omega (arith, within);
-        falls = subst (λ u. IsHalt n ⊎ (5 + frames_weight under + 8 * (o.bound - u) ≤ weight)) e low;
-        came = subst (CameAt false x k s) e c;
-      })
-
-  first_taken : (x : Side) (k : ℕ) (s : language.Steps) → x.used ≤ o.bound → First (further operation stays under o) known x k s → Taken x k s (8 * (o.bound - x.used) + 2 + frames_weight under + 0)
-  first_taken x k s within (inl h) = unpaid x k s _ within h.2 (inl (subst IsHalt (sym h.1) tt))
-  first_taken x k s within (inr h) = record { paid = true; cost = suc h.0; once = inr h.1; room = h.2; falls = inr (let a = h.2 in omega (arith, a)); came = h.3 }
-
-  pub taken : (f : Frame) (a : Answer) (x : Side) → Here o x → x.used ≤ o.bound → Ready f a → goes (further operation stays under o) (far_of a) (script_of f (given_of a)) stays under o x f.calls n new →
-      Taken x f.calls (script_of f (given_of a)) (8 * (o.bound - x.used) + 2 + frames_weight under + answer_weight a)
-  taken f answer.Empty x here within ready g = first_taken x f.calls (script_of f Began) within (first (further operation stays under o) known (script_of f Began) x f.calls here ready g)
-  taken f (answer.Done e) x here within ready g =
-      (let s = script_of f (Ended (completion_of e)) in
-      unpaid x f.calls s _ within (later (further operation stays under o) known false s x f.calls here g) (inr (omega arith)))
+    -- the row of a further task goes on in the same step
+    pub does : (b : Far) (s : language.Steps) (x : Side) (k : ℕ) → goes (further operation stays old.frames old.outer) b s stays old.frames old.outer x k n new → Does b x k s
+    does =
+        walk (further operation stays old.frames old.outer)
+        (λ b x k y g. via b x x k k (Become (Operate y)) (operation y) refl (λ a e. absurd (a e).1) (λ m w. deep m x (at m x k (Become (Operate y))) w)
+        (walk nowhere (λ b x k y g. absurd g) b (operation y) x k g))

@@ -1,81 +1,130 @@
--- What a script above frames comes to, step by step.
-use Rattle.std.proofs.Common.{◌≡◌, refl, sym, ap, ◌∙◌, subst, ℕ, zero, suc, ◌≤◌, true, false, List, Some, arith}
+-- What a run still comes to, as a step goes along a script.
+use Rattle.std.proofs.Common.{◌≡◌, refl, sym, ap, ◌∙◌, subst, ℕ, suc, ◌+◌, ◌-◌, ◌≤◌, true, false, List, Some, length, arith}
 use Rattle.sr_ast.specs.declared.tree.Tree.{Tree}
 use Rattle.sr_ast.specs.declared.reading.Reading.{Reading}
 use Rattle.sr_model.specs.Values.{Text}
 use Rattle.sr_model.specs.Outcomes.{Completion}
 use Rattle.sr_model.specs.Realm.{Inner, Realm}
 use Rattle.sr_model.specs.Tasks.{Run}
-use Rattle.sr_model.specs.Scripts.{Look, Change, Part, Pay, then_follow, IsPlain}
-use Rattle.sr_model.specs.World.{Write, put, pay}
+use Rattle.sr_model.specs.Scripts.{Look, Change, Part, Pay, Enter, then_follow, IsPlain}
+use Rattle.sr_model.specs.World.{Write, World, may_enter, put}
 use Rattle.sr_model.specs.Globals.{Holds, marked}
-use Rattle.sr_worlds.specs.Live.{LiveRan, Steps, over, live}
-use Rattle.sr_worlds.specs.LiveStacks.{live_owed}
+use Rattle.sr_worlds.specs.Evaluation.{then_do}
+use Rattle.sr_worlds.specs.Live.{LiveRan, Steps, over, live_pay, live}
+use Rattle.sr_worlds.specs.LiveStacks.{LiveFrames, live_owed}
 use Rattle.sr_worlds.specs.Stacks as stacks
 use Rattle.sr_worlds.proofs.StackSteps.{steps}
-use Rattle.sr_state.specs.declared.frame.Frame.{Frame}
 use Rattle.sr_state.specs.Work as language
-use Rattle.sr_state.specs.Held.{Side, Outer, realm_in, with_inner, with_steps, change_in, pay_in, begun_in, room_in, table}
+use Rattle.sr_state.specs.Held.{Held, Side, realm_in, with_inner, with_steps, change_in, pay_in, room_in, table}
 use Rattle.sr_state.specs.Step.{Operand, Literal, Name, operand_of, end_of}
 use Rattle.sr_machine.specs.Language.{language}
 use Rattle.sr_machine.specs.Worlds.{Tapes, Here, paths, path_at, world_in, place_in}
-use Rattle.sr_machine.specs.Stack.{waiting, above}
-use Rattle.sr_machine.proofs.Worlds.{realm_here, places_along, here_along, change_is, pay_is}
+use Rattle.sr_machine.specs.Stack.{waiting, above, depths}
+use Rattle.sr_machine.specs.Going.{OfRun, Busy}
+use Rattle.sr_machine.proofs.Worlds.{realm_here, here_along, places_along, change_is, pay_is}
 use Rattle.sr_machine.proofs.Rows.{operand_script, operand_row, operand_is}
 
-module _ (read : Text → Reading) (z : Tapes) (o : Outer) (v : List Write) (under : List Frame) where
-  -- what a script with k active calls comes to, by its depth and those of the frames under it
-  abbrev pub from : Side → ℕ → language.Steps → ℕ → List ℕ → LiveRan Holds
-  from x k s D ds = above read o.bound (place_in o x) (world_in z v o x) k s D under ds
+-- a run in this state: what it comes to, what was written, and by how much less the depths of the frames under the top are
+pub record Course (old : Held) : Type 0 where
+  pub read : Text → Reading
+  pub tapes : Tapes
+  pub meaning : ℕ → LiveRan Holds
+  pub written : List Write
+  pub offsets : List ℕ
+  pub along : length offsets ≡ length old.frames
+  pub waits : Busy old.frames
 
-  pub all_steps : stacks.Steps (language read) (live (language read) o.bound) (live_owed (language read) o.bound)
-  all_steps = steps (language read) (live (language read) o.bound) (live_owed (language read) o.bound)
+operand_plain : (a at : ℕ) (y : Operand) → IsPlain (operand_row a y at)
+operand_plain a at (Literal w) = tt
+operand_plain a at (Name text) = λ r. tt
 
-  module _ (x : Side) (k D : ℕ) (ds : List ℕ) where
-    -- a step of the script, as the worlds have it
-    pub exact : (s : language.Steps) → from x k s D ds ≡ stacks.stepped (language read) (live (language read) o.bound) (live_owed (language read) o.bound) D (place_in o x k) (world_in z v o x) (waiting (place_in o x) under ds) s
-    exact s = (let a = all_steps in a.exact D (place_in o x k) (world_in z v o x) s (waiting (place_in o x) under ds))
+module _ {old : Held} (m : Course old) where
+  abbrev pub In : OfRun → Type 0
+  In P = P m.read old.outer.bound m.tapes m.meaning m.written
 
-    module _ (h : Here o x) where
-      pub looks : (f : Realm Holds → language.Steps) → from x k (Look f) D ds ≡ from x k (f (realm_in x)) D ds
-      looks f = ap (λ (r : Realm Holds). from x k (f r) D ds) (realm_here z o x h)
+  abbrev pub world : Side → World Holds
+  world x = world_in m.tapes m.written old.outer x
 
-      pub changes : (f : Inner Holds → Inner Holds) (s : language.Steps) → from x k (Change f s) D ds ≡ from (change_in f x) k s D ds
-      changes f s =
-          ap (λ (r : Realm Holds). above read o.bound (place_in o x) (put (path_at (paths (table o x)) o.here) (f r.inner) (world_in z v o x)) k s D under ds) (realm_here z o x h)
-          ∙ sym (λ i. above read o.bound (places_along o x (with_inner f) refl i) (change_is z o x h v f i) k s D under ds)
+  abbrev pub under : Side → ℕ → LiveFrames language.Work Holds
+  under x n = waiting (place_in old.outer x) old.frames (depths m.offsets n)
 
-      -- as many steps more are used
-      pub paid : (c j : ℕ) (s : language.Steps) → above read o.bound (place_in o x) (pay (path_at (paths (table o x)) o.here) c (world_in z v o x)) j s D under ds ≡ from (pay_in c x) j s D ds
-      paid c j s = sym (λ i. above read o.bound (places_along o x (with_steps c) refl i) (pay_is z o x h v c i) j s D under ds)
+  -- what a script with k active calls comes to in a world, by its depth and that of the run
+  abbrev pub within : Side → World Holds → ℕ → language.Steps → ℕ → ℕ → LiveRan Holds
+  within x w k s d n = above m.read old.outer.bound (place_in old.outer x) w k s d old.frames (depths m.offsets n)
+
+  abbrev pub at : Side → ℕ → language.Steps → ℕ → ℕ → LiveRan Holds
+  at x k s d n = within x (world x) k s d n
+
+  -- the same of a charge, and after it the script with j active calls
+  abbrev pub paying : Side → ℕ → ℕ → ℕ → language.Steps → ℕ → ℕ → LiveRan Holds
+  paying x k c j s d n = then_do (live_pay old.outer.bound c (place_in old.outer x k) (world x)) (λ (w : World Holds) u. within x w j s d n)
+
+  -- at the side x the run still comes to this
+  pub record Still (x : Side) (r : ℕ → ℕ → LiveRan Holds) : Type 0 where
+    pub here : Here old.outer x
+    pub offset : ℕ
+    pub least : ℕ
+    pub same : (n : ℕ) → least ≤ n → m.meaning n ≡ r (n - offset) n
+
+  pub onward : (x x' : Side) (r r' : ℕ → ℕ → LiveRan Holds) → Here old.outer x' → ((d n : ℕ) → r d n ≡ r' d n) → Still x r → Still x' r'
+  onward x x' r r' here e w = record { here = here; offset = w.offset; least = w.least; same = λ n le. w.same n le ∙ e (n - w.offset) n }
+
+  -- the depth suffices for one task more
+  abbrev pub deep : (x : Side) (r : ℕ → ℕ → LiveRan Holds) → Still x r → Still x (λ d n. r (suc d) n)
+  deep x r w = record {
+    here = w.here;
+    offset = suc w.offset;
+    least = w.offset + suc w.least;
+    same = λ n le. w.same n (omega (arith, le)) ∙ ap (λ d. r d n) (let e : n - w.offset ≡ suc (n - suc w.offset) = omega (arith, le) in e);
+  }
+
+  -- a step of the script, as the worlds have it
+  pub exact : (x : Side) (k : ℕ) (s : language.Steps) (d n : ℕ) →
+      at x k s d n ≡ stacks.stepped (language m.read) (live (language m.read) old.outer.bound) (live_owed (language m.read) old.outer.bound) d (place_in old.outer x k) (world x) (under x n) s
+  exact x k s d n = (steps (language m.read) (live (language m.read) old.outer.bound) (live_owed (language m.read) old.outer.bound)).exact d (place_in old.outer x k) (world x) s (under x n)
+
+  pub looks : (x : Side) (k : ℕ) (f : Realm Holds → language.Steps) → Still x (at x k (Look f)) → Still x (at x k (f (realm_in x)))
+  looks x k f w = onward x x _ _ w.here (λ d n. ap (λ (r : Realm Holds). at x k (f r) d n) (realm_here m.tapes old.outer x w.here)) w
+
+  pub changes : (x : Side) (k : ℕ) (f : Inner Holds → Inner Holds) (s : language.Steps) → Still x (at x k (Change f s)) → (let x' = change_in f x in Still x' (at x' k s))
+  changes x k f s w =
+      (let o = old.outer in
+      onward x (change_in f x) _ _ (here_along o x (with_inner f) refl w.here)
+      (λ d n. ap (λ (r : Realm Holds). within x (put (path_at (paths (table o x)) o.here) (f r.inner) (world x)) k s d n) (realm_here m.tapes o x w.here)
+      ∙ sym (λ i. above m.read o.bound (places_along o x (with_inner f) refl i) (change_is m.tapes o x w.here m.written f i) k s d old.frames (depths m.offsets n))) w)
+
+  pub charges : (x : Side) (k c : ℕ) (s : language.Steps) → Still x (at x k (Pay c s)) → Still x (paying x k c k s)
+  charges x k c s w = onward x x _ _ w.here (exact x k (Pay c s)) w
+
+  pub enters : (x : Side) (k : ℕ) (s : language.Steps) → may_enter k ≡ true → Still x (at x k (Enter s)) → Still x (paying x k 0 (suc k) s)
+  enters x k s may w = onward x x _ _ w.here (λ d n. exact x k (Enter s) d n ∙ rw may refl) w
+
+  pub pays : (x : Side) (k c j : ℕ) (s : language.Steps) → room_in old.outer.bound x (suc c) ≡ true → Still x (paying x k c j s) → (let x' = pay_in (suc c) x in Still x' (at x' j s))
+  pays x k c j s room w =
+      (let o = old.outer in
+      onward x (pay_in (suc c) x) _ _ (here_along o x (with_steps (suc c)) refl w.here)
+      (λ d n. rw room (sym (λ i. above m.read o.bound (places_along o x (with_steps (suc c)) refl i) (pay_is m.tapes o x w.here m.written (suc c) i) j s d old.frames (depths m.offsets n)))) w)
+
+  pub refuses : (x : Side) (k c j : ℕ) (s : language.Steps) → room_in old.outer.bound x (suc c) ≡ false →
+      Still x (paying x k c j s) → Still x (λ d n. over (Steps (suc c)) (place_in old.outer x k) (world x))
+  refuses x k c j s room w = onward x x _ _ w.here (λ d n. rw room refl) w
 
   -- a literal or a name that is a part is evaluated in its place
-  operand_follows : (y : Operand) (s : Completion → language.Steps) (x : Side) (k D : ℕ) (ds : List ℕ) → Here o x → from x k (then_follow (operand_script y) s) D ds ≡ from x k (s (end_of y (realm_in x))) D ds
-  operand_follows (Literal w) s x k D ds h = refl
-  operand_follows (Name text) s x k D ds h = looks x k D ds h (λ r. s (end_of (Name text) r))
+  pub in_place : (x : Side) (k a e : ℕ) (t : Tree) (y : Operand) → operand_of t ≡ Some y → (s : Completion → language.Steps) →
+      Still x (at x k (Part (Run a e t) s)) → Still x (at x k (Pay 0 (Change (marked a t.from) (then_follow (operand_script y) s))))
+  in_place x k a e t y is s w =
+      let same = operand_is m.read a e t y is in
+      let all = steps (language m.read) (live (language m.read) old.outer.bound) (live_owed (language m.read) old.outer.bound) in
+      record {
+        here = w.here;
+        offset = w.offset;
+        least = w.offset + suc w.least;
+        same = λ n le. w.same n (omega (arith, le))
+            ∙ subst (λ d. at x k (Part (Run a e t) s) d n ≡ at x k (then_follow (operand_row a y t.from) s) d n) (let e : suc (n - suc w.offset) ≡ n - w.offset = omega (arith, le) in e)
+            (all.in_place (n - suc w.offset) (place_in old.outer x k) (world x) (Run a e t) s (under x n) (subst IsPlain (sym same) (operand_plain a t.from y))
+            ∙ ap (λ j. at x k (then_follow j s) (suc (n - suc w.offset)) n) same);
+      }
 
-  operand_plain : (a at : ℕ) (y : Operand) → IsPlain (operand_row a y at)
-  operand_plain a at (Literal w) = tt
-  operand_plain a at (Name text) = λ r. tt
-
-  module _ (x : Side) (k a e : ℕ) (t : Tree) (y : Operand) (is : operand_of t ≡ Some y) (s : Completion → language.Steps) where
-    abbrev operand_then : language.Steps
-    operand_then = then_follow (operand_script y) s
-
-    in_place : (D : ℕ) (ds : List ℕ) → 1 ≤ D → from x k (Part (Run a e t) s) D ds ≡ from x k (Pay 0 (Change (marked a t.from) operand_then)) D ds
-    in_place zero ds le = absurd (omega (arith, le))
-    in_place (suc d) ds le =
-        (let b = all_steps in
-        let same = operand_is read a e t y is in
-        b.in_place d (place_in o x k) (world_in z v o x) (Run a e t) s (waiting (place_in o x) under ds) (subst IsPlain (sym same) (operand_plain a t.from y))
-        ∙ ap (λ j. from x k (then_follow j s) (suc d) ds) same)
-
-    pub operand_refused : room_in o.bound x 1 ≡ false → (D : ℕ) (ds : List ℕ) → 1 ≤ D → from x k (Part (Run a e t) s) D ds ≡ over (Steps 1) (place_in o x k) (world_in z v o x)
-    operand_refused room D ds le = in_place D ds le ∙ exact x k D ds (Pay 0 (Change (marked a t.from) operand_then)) ∙ rw room
-
-    pub evaluates : Here o x → room_in o.bound x 1 ≡ true → (D : ℕ) (ds : List ℕ) → 1 ≤ D → (let x' = begun_in a t.from x in from x k (Part (Run a e t) s) D ds ≡ from x' k (s (end_of y (realm_in x'))) D ds)
-    evaluates h room D ds le =
-        let h' = here_along o x (with_steps 1) refl h in
-        let m = marked a t.from in
-        in_place D ds le ∙ exact x k D ds (Pay 0 (Change m operand_then)) ∙ rw room (paid x k D ds h 1 k (Change m operand_then)) ∙ changes (pay_in 1 x) k D ds h' m operand_then
-        ∙ operand_follows y s (begun_in a t.from x) k D ds (here_along o (pay_in 1 x) (with_inner m) refl h')
+  pub operand_follows : (x : Side) (k : ℕ) (y : Operand) (s : Completion → language.Steps) → Still x (at x k (then_follow (operand_script y) s)) → Still x (at x k (s (end_of y (realm_in x))))
+  operand_follows x k (Literal v) s w = w
+  operand_follows x k (Name text) s w = looks x k (λ r. s (end_of (Name text) r)) w

@@ -3,7 +3,5 @@ pub mod Rows
 pub mod Exact
 pub mod Comes
 pub mod Kept
-pub mod Dispatch
-pub mod Outside
 pub mod Advances
 pub mod Begins

@@ -1,5 +1,5 @@
 -- Each row pays first, and a frame that begins a task stands for its row.
-use Rattle.std.proofs.Common.{◌≡◌, refl, sym, ap, ◌∙◌, ℕ, Bool, true, false, List, Option, None, Some}
+use Rattle.std.proofs.Common.{◌≡◌, refl, sym, ap, ◌∙◌, ℕ, Bool, true, false, List, Some}
 use Rattle.sr_ast.specs.declared.tree.Tree.{Tree}
 use Rattle.sr_ast.specs.declared.tree.Element.TheOpen as layer
 use Rattle.sr_ast.specs.Layer.{Layer, layer_of}
@@ -33,13 +33,9 @@ on_either P false s t p q = q
 
 expression_pays : (s e at : ℕ) (l : Layer) → PaysFirst (expression s e at l)
 expression_pays s e at (layer.Assign assign.Plain t b named) = tt
-expression_pays s e at (layer.Assign (assign.Compound op) t b named) = tt
-expression_pays s e at (layer.Assign (assign.Logical op) t b named) = tt
 expression_pays s e at (layer.Binary op a b) = on_either PaysFirst (is_built op) _ _ tt tt
 expression_pays s e at (layer.Unary op a) = on_either PaysFirst (is_prefix_built op) _ _ tt tt
 expression_pays s e at (layer.Call link.Plain callee xs) = tt
-expression_pays s e at (layer.Call link.Optional callee xs) = tt
-expression_pays s e at (layer.Call link.Chained callee xs) = tt
 expression_pays s e at l = tt
 
 statement_pays : (s e at : ℕ) (l : Layer) → PaysFirst (statement s e at l)
@@ -57,13 +53,9 @@ either_at false p q s k kept g y z e e' = e'
 module _ (s at : ℕ) (kept : Kept) (g : Given) where
   expression_begins : (l : Layer) → expressions.layer_at at l s 0 kept g ≡ expression s 0 at l
   expression_begins (layer.Assign assign.Plain t b named) = refl
-  expression_begins (layer.Assign (assign.Compound op) t b named) = refl
-  expression_begins (layer.Assign (assign.Logical op) t b named) = refl
   expression_begins (layer.Binary op a b) = either_at (is_built op) _ _ s 0 kept g _ _ refl refl
   expression_begins (layer.Unary op a) = either_at (is_prefix_built op) _ _ s 0 kept g _ _ refl refl
   expression_begins (layer.Call link.Plain callee xs) = refl
-  expression_begins (layer.Call link.Optional callee xs) = refl
-  expression_begins (layer.Call link.Chained callee xs) = refl
   expression_begins l = refl
 
   statement_begins : (l : Layer) → statements.layer_at at l s 0 kept g ≡ statement s 0 at l
@@ -89,16 +81,8 @@ operand_script (Name x) = Look (λ r. Give (found (global_value x r)))
 abbrev pub operand_row : ℕ → Operand → ℕ → Steps
 operand_row s z at = Pay 0 (Change (marked s at) (operand_script z))
 
-abbrev option_or : Option Operand → Operand → Operand
-option_or None z = z
-option_or (Some y) z = y
-
 operand_layer : (s e at : ℕ) (l : Layer) (z : Operand) → operand_in l ≡ Some z → either (is_statement l) (statement s e at l) (expression s e at l) ≡ operand_row s z at
-operand_layer s e at layer.Null z h = ap (λ o. operand_row s (option_or o z) at) h
-operand_layer s e at (layer.Bool b) z h = ap (λ o. operand_row s (option_or o z) at) h
-operand_layer s e at (layer.Num n) z h = ap (λ o. operand_row s (option_or o z) at) h
-operand_layer s e at (layer.Text text) z h = ap (λ o. operand_row s (option_or o z) at) h
-operand_layer s e at (layer.Name x) z h = ap (λ o. operand_row s (option_or o z) at) h
+operand_layer s e at layer.Null z h = cc
 operand_layer s e at l z h = cc
 
 module _ (read : Text → Reading) where

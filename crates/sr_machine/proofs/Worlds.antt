@@ -7,8 +7,8 @@ use Rattle.sr_model.specs.World.{Slot, Write, Printed, World, Place, choose, cha
 use Rattle.sr_model.specs.World as worlds
 use Rattle.sr_model.specs.Globals.{Holds}
 use Rattle.sr_model.proofs.Same.{same_self, same_tells}
-use Rattle.sr_state.specs.Held.{Own, Side, Outer, path_of, table, realm_in, inner_in, realm_as, with_inner, with_steps, with_line, change_in, pay_in, line_in}
-use Rattle.sr_machine.specs.Worlds.{Tapes, realm_at, paths, path_at, link_of, world_in, First, Here, place_at, place_in}
+use Rattle.sr_state.specs.Held.{Own, Side, Outer, Level, path_of, table, realm_in, inner_in, realm_as, with_inner, with_steps, with_line, change_in, pay_in, line_in}
+use Rattle.sr_machine.specs.Worlds.{Tapes, realm_at, paths, path_at, link_of, world_in, First, Here, place_in}
 
 choose_choose : (b : Bool) (x y z : Realm Holds) → choose b x z ≡ choose b x (choose b y z)
 choose_choose true x y z = refl
@@ -40,9 +40,7 @@ module _ (x y : Own) (e : path_of y ≡ path_of x) where
       ∙ choose_swap (same q (path_of x)) (same q (path_of a)) a.realm y.realm (realm_at (slice_set xs i x) q) (λ s. ap (λ r. same r (path_of a)) (same_tells q (path_of x) s) ∙ h.0)
 
 at_first : (xs : List Own) (i : ℕ) (x : Own) → First (slice_set xs i x) i (path_of x) → realm_at (slice_set xs i x) (path_of x) ≡ x.realm
-at_first [] i x h = absurd h
-at_first (a ∷ xs) zero x h = ap (λ b. choose b x.realm (realm_at xs (path_of x))) (same_self (path_of x))
-at_first (a ∷ xs) (suc i) x h = ap (λ b. choose b a.realm (realm_at (slice_set xs i x) (path_of x))) h.0 ∙ at_first xs i x h.1
+at_first xs i x h = set_realm x x refl xs i h (path_of x) ∙ ap (λ b. choose b x.realm (realm_at (slice_set xs i x) (path_of x))) (same_self (path_of x))
 
 path_first : (xs : List Own) (i : ℕ) (x : Own) → First (slice_set xs i x) i (path_of x) → path_at (paths (slice_set xs i x)) i ≡ path_of x
 path_first [] i x h = absurd h
@@ -64,7 +62,9 @@ module _ (o : Outer) (x : Side) (g : Realm Holds → Realm Holds) (keeps : (let 
 
   -- and the places are the same
   pub places_along : place_in o (realm_as g x) ≡ place_in o x
-  places_along = ap (λ ps. place_at ps o.here o.below) (set_paths x.own changed keeps o.others o.here)
+  places_along =
+      (λ i k. let path = path_at (set_paths x.own changed keeps o.others o.here i) in
+      let c : Place = record { realm = path o.here; calls = k; under = path o.here ∷ map (λ (l : Level). path l.realm) o.below } in c)
 
 module _ (z : Tapes) (o : Outer) (x : Side) (h : Here o x) where
   abbrev p : Path
@@ -87,7 +87,7 @@ module _ (z : Tapes) (o : Outer) (x : Side) (h : Here o x) where
   changed_in v g f keeps does =
       let ps = set_paths x.own (changed o x g keeps) keeps o.others o.here in
       let slot = λ (r : Realm Holds). let a : Slot Holds = record { realm = r; tape = z p } in a in
-      (λ j. let w : World Holds = record {
+      (λ j. let w : World Holds = world_in z v o x in record w {
         slots = λ q.
             (ap (λ r. let a : Slot Holds = record { realm = r; tape = z q } in a)
             (set_realm x.own (changed o x g keeps) keeps o.others o.here h.0 q ∙ ap (λ r. choose (same q r) (g (realm_in x)) (realm_at (table o x) q)) (sym own_path))
@@ -95,13 +95,7 @@ module _ (z : Tapes) (o : Outer) (x : Side) (h : Here o x) where
             ∙ ap (λ (s : Slot Holds). choose (same q p) s (record { realm = realm_at (table o x) q; tape = z q })) (sym (ap (λ r. f (slot r)) realm_here ∙ does))) j;
         made = ps j;
         links = map (link_of (ps j)) o.links;
-        pending = [];
-        told = [];
-        tickets = [];
-        answers = [];
-        used = x.used;
-        writes = v;
-      } in w)
+      })
 
   pub change_is : (v : List Write) (f : Inner Holds → Inner Holds) → world_in z v o (change_in f x) ≡ put p (f (inner_in x)) (world_in z v o x)
   change_is v f = changed_in v (with_inner f) (worlds.with_inner (f (inner_in x))) refl refl

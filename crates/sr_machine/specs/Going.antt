@@ -120,17 +120,22 @@ module _ (read : Text → Reading) (bound : ℕ) (z : Tapes) where
     pub least : ℕ
     pub same : (n : ℕ) → least ≤ n → meaning n ≡ comes read bound z v h (depths offsets n)
 
+-- what is told of a run: of its language, its bound, its tapes, what it comes to by the depth, and what was written
+abbrev pub OfRun : Type 1
+OfRun = (Text → Reading) → ℕ → Tapes → (ℕ → LiveRan Holds) → List Write → Type 0
+
 -- in each language, whatever the state of a run comes to
-abbrev pub ForRuns : Held → ((Text → Reading) → ℕ → Tapes → (ℕ → LiveRan Holds) → List Write → Type 0) → Type 0
+abbrev pub ForRuns : Held → OfRun → Type 0
 ForRuns h P =
     (read : Text → Reading) (bound : ℕ) (z : Tapes) (meaning : ℕ → LiveRan Holds) (v : List Write) → Under read bound z meaning v h → P read bound z meaning v
 
--- the loop goes on: the step printed a line at most. What was the state of a run is so after it, it paid once at most, and the number has
--- fallen
+-- what was the state of a run is so after a step, which printed a line at most. It paid once at most, and the number has fallen
+abbrev pub Moves : Option Text → Held → Held → OfRun
+Moves text old new read bound z meaning v = Under read bound z meaning (v ++ writes_of text) new × (left_of new < left_of old) × PaysOnce old new
+
+-- the loop goes on
 abbrev pub GoesOn : Held → Held → Option (List ℕ) → Option (List ℕ) → Type 0
-GoesOn old new before after =
-    (text : Option Text) × Appends before after (printed_bytes text)
-    × ForRuns old (λ read bound z meaning v. Under read bound z meaning (v ++ writes_of text) new × (left_of new < left_of old) × PaysOnce old new)
+GoesOn old new before after = (text : Option Text) × Appends before after (printed_bytes text) × ForRuns old (Moves text old new)
 
 -- why a stop ends the run
 abbrev pub IsWhy : StopName → Why → Side → Type 0
@@ -138,11 +143,14 @@ IsWhy (stop.Steps used cost) why x = (why ≡ Steps cost) × (used ≡ x.used)
 IsWhy name why x = (y : Stop) × (why ≡ Stopped y) × IsStop name y
 
 -- the run is over by this stop, in the world of the new state
-abbrev pub StopsBy : StopName → Held → Held → Type 0
-StopsBy name old new =
-    ForRuns old (λ read bound z meaning v.
+abbrev pub Halts : StopName → Held → Held → OfRun
+Halts name old new read bound z meaning v =
     (why : Why) × (calls : ℕ) × IsWhy name why new.side × PaysOnce old new × Here new.outer new.side
-    × (least : ℕ) × ((n : ℕ) → least ≤ n → meaning n ≡ over why (place_of new calls) (world_of z v new)))
+    × (least : ℕ) × ((n : ℕ) → least ≤ n → meaning n ≡ over why (place_of new calls) (world_of z v new))
+
+-- and so is each run that the old state is of
+abbrev pub StopsBy : StopName → Held → Held → Type 0
+StopsBy name old new = ForRuns old (Halts name old new)
 
 -- a failing sink took a first part of the next line of the run
 abbrev pub BreaksOff : Held → Option (List ℕ) → Option (List ℕ) → Type 0

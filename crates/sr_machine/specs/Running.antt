@@ -80,12 +80,10 @@ answer_of ended.Memory = advance.Memory
 
 -- what ended the run is remembered
 abbrev pub Remembers : Advance → Option Ended → Type 0
-Remembers advance.Going over = Unit {0}
-Remembers advance.Done over = Unit {0}
-Remembers (advance.Thrown text) over = Unit {0}
 Remembers (advance.Stop s) over = over ≡ Some (ended.Stop s)
 Remembers advance.Write over = over ≡ Some ended.Write
 Remembers advance.Memory over = over ≡ Some ended.Memory
+Remembers a over = Unit {0}
 
 -- the start of the last tree whose charge was paid
 abbrev pub IsLastPlace : StopAt → Side → Type 0
@@ -97,12 +95,8 @@ Stopped s old new = StopsBy s.name old new × IsLastPlace s new.side
 
 -- the report of the throw in which the source ended, in the realm as it is then
 abbrev pub thrown_of : Realm Holds → Answer → Option Text
-thrown_of r answer.Empty = None
-thrown_of r (answer.Done (completion.Normal v)) = None
 thrown_of r (answer.Done (completion.Abrupt (abrupt.Throw v))) = Some (throw_report r (value_of v))
-thrown_of r (answer.Done (completion.Abrupt (abrupt.Return v))) = None
-thrown_of r (answer.Done (completion.Abrupt (abrupt.Break l))) = None
-thrown_of r (answer.Done (completion.Abrupt (abrupt.Continue l))) = None
+thrown_of r a = None
 
 -- the report of the throw in which a run ended
 abbrev pub thrown_in : Held → Option Text

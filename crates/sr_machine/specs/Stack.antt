@@ -9,7 +9,7 @@ use Rattle.sr_worlds.specs.Stacks.{Waits, top}
 use Rattle.sr_worlds.specs.LiveStacks.{LiveFrames, live_means}
 use Rattle.sr_state.specs.declared.frame.Frame.{Frame}
 use Rattle.sr_state.specs.Held.{Held}
-use Rattle.sr_state.specs.Step.{Given, Ended, given_of}
+use Rattle.sr_state.specs.Step.{Ended, given_of}
 use Rattle.sr_state.specs.Work.{Work, Steps}
 use Rattle.sr_machine.specs.Language.{language}
 use Rattle.sr_machine.specs.Stages.{script_of}
@@ -26,14 +26,10 @@ module _ (read : Text → Reading) (bound : ℕ) where
   abbrev pub above : (ℕ → Place) → World Holds → ℕ → Steps → ℕ → List Frame → List ℕ → LiveRan Holds
   above c w k s d fs ds = live_means (language read) bound (top d (c k) w s (waiting c fs ds))
 
-  -- what a frame on top comes to, by what it is given
-  abbrev pub on_top : (ℕ → Place) → World Holds → Frame → List Frame → Given → List ℕ → LiveRan Holds
-  on_top c w f fs g [] = over Short (c 0) w
-  on_top c w f fs g (d ∷ ds) = above c w f.calls (script_of f g) d fs ds
-
   -- what a state still comes to, where v was written, by the depths of its frames from the top down
   abbrev pub comes : Tapes → List Write → Held → List ℕ → LiveRan Holds
-  comes z v h ds = on_top (place_of h) (world_of z v h) h.top h.frames (given_of h.answer) ds
+  comes z v h [] = over Short (place_of h 0) (world_of z v h)
+  comes z v h (d ∷ ds) = (let f = h.top in above (place_of h) (world_of z v h) f.calls (script_of f (given_of h.answer)) d h.frames ds)
 
 -- depths by how much less they are than the whole one
 abbrev pub depths : List ℕ → ℕ → List ℕ

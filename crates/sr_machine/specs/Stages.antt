@@ -8,7 +8,7 @@ use Rattle.sr_state.specs.declared.frame.Activity.TheVariants as activity
 use Rattle.sr_state.specs.declared.frame.Frame.{Frame}
 use Rattle.sr_state.specs.declared.ends.Next.{Next}
 use Rattle.sr_state.specs.Held.{Held}
-use Rattle.sr_state.specs.Step.{At, Given, Began, Ended, kept_of, StepsWith, StepsAnywhere}
+use Rattle.sr_state.specs.Step.{At, Given, Began, Ended, kept_of, StepsWith, StepsBy, StepsAnywhere}
 use Rattle.sr_state.specs.Work.{Steps}
 use Rattle.sr_expr.specs.Stages.{expression_at}
 use Rattle.sr_stmt.specs.Rows.{is_statement, operation}
@@ -39,7 +39,7 @@ abbrev pub StepsOf : Activity → Held → Next → Held → Type 0
 StepsOf activity.Idle old n new = ⊥
 StepsOf (activity.Tree t) old n new = StepsWith operation (tree_at t) old n new
 StepsOf (activity.Source x) old n new = StepsAnywhere operation (source_at x) old n new
-StepsOf (activity.BuiltIn b) old n new = StepsWith operation (built_in_at b) old n new
+StepsOf (activity.BuiltIn b) old n new = StepsBy (built_in_at b) old n new
 
 abbrev pub FrameSteps : Held → Next → Held → Type 0
 FrameSteps old n new = StepsOf old.top.activity old n new

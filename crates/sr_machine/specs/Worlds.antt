@@ -7,7 +7,7 @@ use Rattle.sr_model.specs.World as worlds
 use Rattle.sr_model.specs.World.{Write, World, Place, choose}
 use Rattle.sr_model.specs.Globals.{Holds, born}
 use Rattle.sr_state.specs.declared.realm.Link.{Link}
-use Rattle.sr_state.specs.Held.{Own, Side, Outer, Held, Level, path_of, table}
+use Rattle.sr_state.specs.Held.{Own, Side, Outer, Held, path_of, table}
 
 -- the tape of each path
 abbrev pub Tapes : Type 0
@@ -30,22 +30,19 @@ path_at (p ∷ ps) (suc n) = path_at ps n
 abbrev pub link_of : List Path → Link → worlds.Link
 link_of ps row = record { realm = path_at ps row.realm; wrapper = row.wrapper; owner = path_at ps row.owner; export = row.export }
 
-abbrev pub world_at : Tapes → List Write → List Own → List Link → ℕ → World Holds
-world_at z v xs rows used = record {
-  slots = λ q. record { realm = realm_at xs q; tape = z q };
-  made = paths xs;
-  links = map (link_of (paths xs)) rows;
+-- the world of a state, where v was written
+abbrev pub world_in : Tapes → List Write → Outer → Side → World Holds
+world_in z v o x = record {
+  slots = λ q. record { realm = realm_at (table o x) q; tape = z q };
+  made = paths (table o x);
+  links = map (link_of (paths (table o x))) o.links;
   pending = [];
   told = [];
   tickets = [];
   answers = [];
-  used = used;
+  used = x.used;
   writes = v;
 }
-
--- the world of a state, where v was written
-abbrev pub world_in : Tapes → List Write → Outer → Side → World Holds
-world_in z v o x = world_at z v (table o x) o.links x.used
 
 abbrev pub world_of : Tapes → List Write → Held → World Holds
 world_of z v h = world_in z v h.outer h.side
@@ -61,11 +58,10 @@ abbrev pub Here : Outer → Side → Type 0
 Here o x = First (table o x) o.here (path_of x.own) × (path_of x.own ≡ root)
 
 -- the place of a frame with so many active calls: the realm that runs, and all that have an event under way
-abbrev pub place_at : List Path → ℕ → List Level → ℕ → Place
-place_at ps r ls k = record { realm = path_at ps r; calls = k; under = path_at ps r ∷ map (λ l. path_at ps l.realm) ls }
-
 abbrev pub place_in : Outer → Side → ℕ → Place
-place_in o x k = place_at (paths (table o x)) o.here o.below k
+place_in o x k =
+    let path = path_at (paths (table o x)) in
+    record { realm = path o.here; calls = k; under = path o.here ∷ map (λ l. path l.realm) o.below }
 
 abbrev pub place_of : Held → ℕ → Place
 place_of h k = place_in h.outer h.side k

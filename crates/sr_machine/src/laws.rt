@@ -22,6 +22,7 @@ pub fn each_row_pays_first()
 {}
 
 /// A run that was given a text is the state of what the first realm does with that text.
+#[tactic(auto, using(crate::proofs::Begins::begins))]
 pub fn a_run_begins()
     ensures { Begins }
 {}

@@ -1,4 +1,4 @@
-ghost use Rattle.std.specs.Prelude.{◌≡◌, false, None, Ok, IfOk, OnOk};
+ghost use Rattle.std.specs.Prelude.{◌≡◌, false, None, IfOk};
 ghost use Rattle.sr_state.specs.Held.{is_idle};
 ghost use Rattle.sr_state.specs.Step.{StepsWith};
 ghost use Rattle.sr_stmt.specs.Rows.{operation};
@@ -42,12 +42,12 @@ fn carry_out(state: &mut State) -> Result<Next, AllocError>
 }
 
 /// A step of the frame on top in a run, which comes to no cut, and in which what stands outside the realm stays as it is.
+#[tactic(auto, using(crate::proofs::Kept::uncut))]
 pub(crate) fn step(state: &mut State) -> Result<Next, AllocError>
     requires busy { is_idle state.old.top.activity ≡ false }
     requires run { state.old.outer.cut ≡ None }
     ensures steps { IfOk result (λ next. FrameSteps state.old next state.new) }
-    ensures outside { OnOk result (state.new.outer ≡ state.old.outer) }
-    ensures no_cut { result ≡ Ok Next.CutOff → ⊥ }
+    ensures uncut { IfOk result (λ next. (state.new.outer ≡ state.old.outer) × (next ≡ Next.CutOff → ⊥)) }
 {
     carry_out(state)
 }
