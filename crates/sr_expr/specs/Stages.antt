@@ -3,6 +3,7 @@
 use Rattle.std.specs.Prelude.{ℕ, zero, suc, List, [], ◌∷◌, ◌++◌, Option, None, Some, map, drop}
 use Rattle.sr_ast.specs.declared.tree.Tree.{Tree}
 use Rattle.sr_ast.specs.Layer.{Layer, layer_of}
+use Rattle.sr_ast.specs.declared.tree.Element.{Element}
 use Rattle.sr_ast.specs.declared.tree.Element.TheOpen as layer
 use Rattle.sr_ast.specs.declared.operators.Link.{Link}
 use Rattle.sr_ast.specs.declared.operators.Link.TheVariants as link
@@ -19,6 +20,11 @@ use Rattle.sr_state.specs.Work.{Steps}
 use Rattle.sr_state.specs.Step.{Given, At}
 use Rattle.sr_state.specs.Trees.{value_in, give_value, throw_error, computed, operated, begin, valued, valued_at, kept_at}
 use Rattle.sr_expr.specs.Rows.{expression_of, name_in, is_built, is_prefix_built, between, stored, put, not_built, literal, name, in_order, sequence, chosen, condition, undecided, logical, both, unary, update, plain_assignment, put_undecided, logical_assignment, arguments, call}
+
+-- ends with a value, which is given to the target, where there is one
+abbrev pub finish : Option Tree → Value → Steps
+finish None v = give_value v
+finish (Some t) v = put t v
 
 module _ (at : ℕ) where
   abbrev pub not_built_at : At
@@ -57,11 +63,8 @@ module _ (at : ℕ) where
   both_at op a b k s (suc (suc zero)) kept g = valued_at s 0 g b (between op k (value_in kept.value))
   both_at op a b k s (suc (suc (suc n))) kept g = kept_at kept.value k
 
-  abbrev pub binary_at : BinaryOp → Tree → Tree → At
-  binary_at op a b = both_at op a b give_value
-
   abbrev pub operator_at : BinaryOp → Tree → Tree → At
-  operator_at op a b = either (is_built op) (binary_at op a b) not_built_at
+  operator_at op a b = either (is_built op) (both_at op a b (finish None)) not_built_at
 
   -- at the operand, and where a string that was made is paid
   abbrev pub unary_at : UnaryOp → Tree → At
@@ -82,9 +85,6 @@ module _ (at : ℕ) where
   plain_at t b s (suc zero) kept g = begin s 0 t.from (valued s 0 b (put t))
   plain_at t b s (suc (suc n)) kept g = valued_at s 0 g b (put t)
 
-  abbrev pub compound_at : BinaryOp → Tree → Tree → At
-  compound_at op t b = both_at op t b (put t)
-
   -- at the old value, and at the right side
   abbrev pub logical_assignment_at : LogicalOp → Tree → Tree → At
   logical_assignment_at op t b s zero kept g = logical_assignment s 0 at op t b
@@ -93,25 +93,27 @@ module _ (at : ℕ) where
 
   abbrev pub assignment_at : AssignOp → Tree → Tree → At
   assignment_at assign.Plain t b = plain_at t b
-  assignment_at (assign.Compound op) t b = compound_at op t b
+  assignment_at (assign.Compound op) t b = both_at op t b (finish (Some t))
   assignment_at (assign.Logical op) t b = logical_assignment_at op t b
 
   -- the arguments that are left, of which the first is under way
-  abbrev pub arguments_at : ℕ → Given → List (Option Tree) → List Value → Steps
+  abbrev pub argument_at : ℕ → Given → Option Tree → List (Option Tree) → List Value → Steps
+  argument_at s g None ts vs = throw_error
+  argument_at s g (Some t) ts vs = valued_at s 0 g t (λ v. arguments s 0 ts (vs ++ v ∷ []))
+
+  abbrev pub arguments_at : ℕ → Given → List Element → List Value → Steps
   arguments_at s g [] vs = throw_error
-  arguments_at s g (None ∷ ts) vs = throw_error
-  arguments_at s g (Some t ∷ ts) vs = valued_at s 0 g t (λ v. arguments s 0 ts (vs ++ v ∷ []))
+  arguments_at s g (x ∷ xs) vs = argument_at s g (expression_of x) (map expression_of xs) vs
 
   -- at the charge of the callee, and at stage n + 2 at the n-th argument
-  abbrev pub call_at : Tree → List (Option Tree) → At
-  call_at callee ts s zero kept g = call s 0 at callee ts
-  call_at callee ts s (suc zero) kept g = begin s 0 callee.from (arguments s 0 ts [])
-  call_at callee ts s (suc (suc n)) kept g = arguments_at s g (drop n ts) kept.list
+  abbrev pub call_at : Tree → List Element → At
+  call_at callee xs s zero kept g = call s 0 at callee (map expression_of xs)
+  call_at callee xs s (suc zero) kept g = begin s 0 callee.from (arguments s 0 (map expression_of xs) [])
+  call_at callee xs s (suc (suc n)) kept g = arguments_at s g (drop n xs) kept.list
 
-  abbrev pub linked_at : Link → Tree → List (Option Tree) → At
-  linked_at link.Plain callee ts = call_at callee ts
-  linked_at link.Optional callee ts = not_built_at
-  linked_at link.Chained callee ts = not_built_at
+  abbrev pub linked_at : Link → Tree → List Element → At
+  linked_at link.Plain callee xs = call_at callee xs
+  linked_at l callee xs = not_built_at
 
   -- by kind
   abbrev pub layer_at : Layer → At
@@ -122,7 +124,7 @@ module _ (at : ℕ) where
   layer_at (layer.Binary op a b) = operator_at op a b
   layer_at (layer.Unary op a) = prefix_at op a
   layer_at (layer.Update op t) = update_at op t
-  layer_at (layer.Call l callee xs) = linked_at l callee (map expression_of xs)
+  layer_at (layer.Call l callee xs) = linked_at l callee xs
   layer_at (layer.Name x) = name_at x
   layer_at layer.Null = literal_at (Simple Null)
   layer_at (layer.Bool b) = literal_at (Simple (Truth b))

@@ -1,16 +1,13 @@
-ghost use Rattle.std.specs.Prelude.{◌≡◌, map};
-ghost use Rattle.std.specs.Option.{option_copied};
 ghost use Rattle.sr_state.specs.Ends.{Comes};
 ghost use Rattle.sr_state.specs.Step.{StepsBy};
 ghost use Rattle.sr_expr.specs.Parts.{BeginsArgument, IsArgument};
-ghost use Rattle.sr_expr.specs.Rows.{expression_of};
 ghost use Rattle.sr_expr.specs.Stages.{call_at, linked_at};
 
 use crate::basic::not_built;
 use sqlite_items::Items;
 use sr_ast::{Element, Link, Tree};
 use sr_shared::Shared;
-use sr_state::{BuiltIn, Next, Over, State, after, before};
+use sr_state::{BuiltIn, Next, Over, State, after, before, here};
 
 /// What stands at a place of the arguments of a call.
 #[derive(Clone, Copy)]
@@ -23,27 +20,14 @@ pub enum Argument<'a> {
     NotBuilt,
 }
 
-/// The expression of an argument; none where it is not built.
-fn expression_in(element: &Element) -> Option<&Shared<Tree>>
-    ensures { option_copied result ≡ expression_of element.now }
-{
-    match element {
-        Element::Value(tree) => Some(tree),
-        Element::Spread(_) | Element::Hole => None,
-    }
-}
-
 /// The argument of this number, from 0.
-#[tactic(auto, using(crate::proofs::Drops::argument_there, crate::proofs::Drops::argument_none))]
 fn argument_at(arguments: &Items<Element>, at: u32) -> Argument<'_>
-    ensures { IsArgument at (map expression_of arguments.now) result }
+    ensures { IsArgument at arguments.now result }
 {
-    match arguments.get(at as usize) {
+    match here(arguments, at) {
         None => Argument::End,
-        Some(element) => match expression_in(element) {
-            None => Argument::NotBuilt,
-            Some(tree) => Argument::Expression(tree),
-        },
+        Some(Element::Value(tree)) => Argument::Expression(tree),
+        Some(Element::Spread(_) | Element::Hole) => Argument::NotBuilt,
     }
 }
 
@@ -68,7 +52,7 @@ fn call(
     callee: &Shared<Tree>,
     arguments: &Items<Element>,
 ) -> Result<Next, Over>
-    ensures { Comes result (λ next. StepsBy (call_at at callee.now (map expression_of arguments.now)) state.old next state.new) }
+    ensures { Comes result (λ next. StepsBy (call_at at callee.now arguments.now) state.old next state.new) }
 {
     match before(state.stage()) {
         None => {
@@ -84,8 +68,8 @@ fn call(
             }
             Some(number) => match argument_at(arguments, number) {
                 Argument::End | Argument::NotBuilt => Ok(state.throw()),
-                Argument::Expression(here) => {
-                    let value = state.resume_value(here)?;
+                Argument::Expression(part) => {
+                    let value = state.resume_value(part)?;
                     state.keep_more(value)?;
                     let stage = after(state.stage())?;
                     begin_argument(state, stage, argument_at(arguments, after(number)?))
@@ -96,6 +80,7 @@ fn call(
 }
 
 /// A call, by how it is linked to its callee (ECMA-262 13.3.6, 13.3.9). One in an optional chain throws after its charge.
+#[inline(always)]
 pub fn linked(
     state: &mut State,
     at: usize,
@@ -103,7 +88,7 @@ pub fn linked(
     callee: &Shared<Tree>,
     arguments: &Items<Element>,
 ) -> Result<Next, Over>
-    ensures { Comes result (λ next. StepsBy (linked_at at link callee.now (map expression_of arguments.now)) state.old next state.new) }
+    ensures { Comes result (λ next. StepsBy (linked_at at link callee.now arguments.now) state.old next state.new) }
 {
     match link {
         Link::Plain => call(state, at, callee, arguments),

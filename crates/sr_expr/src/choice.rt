@@ -5,6 +5,7 @@ ghost use Rattle.sr_state.specs.Step.{StepsBy};
 ghost use Rattle.sr_expr.specs.Rows as rows;
 ghost use Rattle.sr_expr.specs.Stages.{condition_at, logical_at};
 
+use crate::operators::Operands;
 use sr_ast::{LogicalOp, Tree};
 use sr_conv::to_boolean;
 use sr_shared::Shared;
@@ -49,23 +50,17 @@ pub fn condition(
 }
 
 /// A logical operator (ECMA-262 13.13.1): the right operand is evaluated where the left one does not decide.
-pub fn logical(
-    state: &mut State,
-    at: usize,
-    op: LogicalOp,
-    left: &Shared<Tree>,
-    right: &Shared<Tree>,
-) -> Result<Next, Over>
-    ensures { Comes result (λ next. StepsBy (logical_at at op left.now right.now) state.old next state.new) }
+pub fn logical(state: &mut State, op: LogicalOp, pair: Operands<'_>) -> Result<Next, Over>
+    ensures { Comes result (λ next. StepsBy (logical_at pair.entry.at op pair.entry.left.now pair.entry.right.now) state.old next state.new) }
 {
     match state.stage() {
-        0 => state.begin_with(at, left),
+        0 => state.begin_with(pair.at, pair.left),
         _ => {
-            let x = state.resume_value(left)?;
+            let x = state.resume_value(pair.left)?;
             if decides(op, &x) {
                 Ok(state.give(x))
             } else {
-                state.become_part(right)
+                state.become_part(pair.right)
             }
         }
     }

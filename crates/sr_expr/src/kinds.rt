@@ -7,7 +7,7 @@ use crate::assign::assignment;
 use crate::basic::{literal, name, not_built, sequence};
 use crate::call::linked;
 use crate::choice::{condition, logical};
-use crate::operators::{operator, prefix, update};
+use crate::operators::{Operands, operator, prefix, update};
 use sr_ast::{Node, Tree};
 use sr_state::{Next, Over, State};
 use sr_value::Value;
@@ -20,10 +20,10 @@ fn expression(state: &mut State, tree: &Tree) -> Result<Next, Over>
     let at = tree.from;
     match &tree.node {
         Node::Sequence(parts) => sequence(state, at, parts),
-        Node::Assign(op, target, right, _) => assignment(state, at, *op, target, right),
+        Node::Assign(op, left, right, _) => assignment(state, *op, Operands { at, left, right }),
         Node::Cond(test, yes, no) => condition(state, at, test, yes, no),
-        Node::Logical(op, left, right) => logical(state, at, *op, left, right),
-        Node::Binary(op, left, right) => operator(state, at, *op, left, right),
+        Node::Logical(op, left, right) => logical(state, *op, Operands { at, left, right }),
+        Node::Binary(op, left, right) => operator(state, *op, Operands { at, left, right }),
         Node::Unary(op, operand) => prefix(state, at, *op, operand),
         Node::Update(op, target) => update(state, at, *op, target),
         Node::Call(link, callee, arguments) => linked(state, at, *link, callee, arguments),

@@ -44,10 +44,7 @@ IsStop (stop.Steps used cost) y = ⊥
 -- a step stopped the run by this stop
 abbrev pub HaltsBy : Next → model.Stop → Type 0
 HaltsBy (next.Halt name) y = IsStop name y
-HaltsBy next.Going y = ⊥
-HaltsBy next.Ended y = ⊥
-HaltsBy (next.Print text) y = ⊥
-HaltsBy next.CutOff y = ⊥
+HaltsBy n y = ⊥
 
 -- of what a step came to this holds. Of want of memory nothing is said
 abbrev pub Comes : Result Next Over → (Next → Type 0) → Type 0

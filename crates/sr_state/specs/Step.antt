@@ -1,5 +1,5 @@
 -- What one step of the frame on top does, against the script that the frame stands for.
-use Rattle.std.specs.Prelude.{◌≡◌, ℕ, zero, suc, Bool, true, false, List, [], ◌∷◌, Option, None, Some, map}
+use Rattle.std.specs.Prelude.{◌≡◌, ℕ, suc, Bool, true, false, List, [], ◌∷◌, Option, None, Some, map}
 use Rattle.sr_ast.specs.declared.tree.Tree.{Tree}
 use Rattle.sr_ast.specs.declared.tree.Element.TheOpen as layer
 use Rattle.sr_ast.specs.Layer.{Layer, layer_of}
@@ -7,8 +7,8 @@ use Rattle.sr_value.specs.declared.value.Value.{Value}
 use Rattle.sr_model.specs.Values as model
 use Rattle.sr_model.specs.Outcomes.{Completion, Normal, Abrupt, Throw}
 use Rattle.sr_model.specs.Realm.{Realm}
-use Rattle.sr_model.specs.Tasks.{Run, Apply, Construct, Perform, Convert, Operate, Read, Work}
-use Rattle.sr_model.specs.Scripts.{Give, Halt, Look, Change, Part, Become, Pay, Enter, Line, Ticket, NewRealm, Tell, Load, Ask}
+use Rattle.sr_model.specs.Tasks.{Run, Perform, Operate}
+use Rattle.sr_model.specs.Scripts.{Give, Halt, Look, Change, Part, Become, Pay, Enter, Line}
 use Rattle.sr_model.specs.World.{may_enter}
 use Rattle.sr_model.specs.Globals.{Holds, global_value}
 use Rattle.sr_conv.specs.Plain.{value_of, option_of}
@@ -88,12 +88,7 @@ far_of (answer.Done o) = Resumed
 abbrev pub IsFresh : language.Work → ℕ → Frame → Type 0
 IsFresh (Run source environment tree) k f = (environment ≡ 0) × (f ≡ fresh_frame (activity.Tree tree) source k [])
 IsFresh (Perform b this args target) k f = (f.activity ≡ activity.BuiltIn b) × (f.stage ≡ 0) × (f.calls ≡ k) × (let x = kept_of f in x.list ≡ args)
-IsFresh (Apply f this args) k c = ⊥
-IsFresh (Construct f args target) k c = ⊥
-IsFresh (Convert to v) k c = ⊥
-IsFresh (Operate o) k c = ⊥
-IsFresh (Read goal text) k c = ⊥
-IsFresh (Work m) k c = ⊥
+IsFresh t k f = ⊥
 
 -- one or the other, by a test
 abbrev pub Where : Bool → Type 0 → Type 0 → Type 0
@@ -148,27 +143,24 @@ Becomes under o x k t n new = (n ≡ next.Going) × Left o x new × IsFresh t k 
 abbrev pub on_part : Option Operand → Far → (Operand → Type 0) → Type 0 → Type 0 → Type 0
 on_part None b evaluates stays begins = begins
 on_part (Some z) Fresh evaluates stays begins = evaluates z
-on_part (Some z) Resumed evaluates stays begins = stays
-on_part (Some z) Paid evaluates stays begins = stays
+on_part (Some z) b evaluates stays begins = stays
 
 -- a step pays only as it begins: where it comes to a payment later it ends, and the frame stands for the rest
 abbrev pub on_pay : Far → Type 0 → Type 0 → Type 0
 on_pay Fresh pays stays = pays
-on_pay Resumed pays stays = stays
-on_pay Paid pays stays = stays
+on_pay b pays stays = stays
 
 -- a step prints only after it has paid
 abbrev pub on_line : Far → Type 0 → Type 0
-on_line Fresh prints = ⊥
-on_line Resumed prints = ⊥
 on_line Paid prints = prints
+on_line b prints = ⊥
 
 -- what a step does that goes on with a task other than a tree
 abbrev pub Further : Type 1
 Further = Far → Side → ℕ → language.Operation → Next → Held → Type 0
 
 -- A step goes on with a script. stays tells of frames that are put back, and the frames under it stand below; x is the side so far, and
--- k counts the active calls
+-- k counts the active calls. No step goes on with a script of what joins realms
 abbrev pub goes : Further → Far → language.Steps → Stay → List Frame → Outer → Side → ℕ → Next → Held → Type 0
 goes m b (Give y) stays under o x k n new = (n ≡ next.Ended) × IsEnd new.answer y × (new.side ≡ x) × (new.outer ≡ o) × (new.frames ≡ under)
 goes m b (Halt y) stays under o x k n new = HaltsBy n y × (new.side ≡ x) × (new.outer ≡ o)
@@ -189,11 +181,7 @@ goes m b (Part (Run source environment t) s) stays under o x k n new =
 goes m b (Part t s) stays under o x k n new = Begins stays under o x k t s n new
 goes m b (Become (Operate z)) stays under o x k n new = m b x k z n new
 goes m b (Become t) stays under o x k n new = Becomes under o x k t n new
-goes m b (Ticket s) stays under o x k n new = ⊥
-goes m b (NewRealm s) stays under o x k n new = ⊥
-goes m b (Tell i y s) stays under o x k n new = ⊥
-goes m b (Load name s) stays under o x k n new = ⊥
-goes m b (Ask y s) stays under o x k n new = ⊥
+goes m b s stays under o x k n new = ⊥
 
 -- no step goes on with a second such task
 abbrev pub nowhere : Further

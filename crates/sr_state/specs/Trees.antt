@@ -2,7 +2,7 @@
 use Rattle.std.specs.Prelude.{ℕ, zero, suc, ◌/◌, nat_le, ◌++◌, [], length, Option, None, Some}
 use Rattle.sr_ast.specs.declared.tree.Tree.{Tree}
 use Rattle.sr_model.specs.Values.{Text, Value, Simple, Undefined, Str}
-use Rattle.sr_model.specs.Outcomes.{Completion, Normal, Abrupt, Leave, Throw, StringLength}
+use Rattle.sr_model.specs.Outcomes.{Completion, Normal, Abrupt, Throw, StringLength}
 use Rattle.sr_model.specs.Tasks.{Run}
 use Rattle.sr_model.specs.Scripts.{Give, Halt, Change, Part, Pay, pay, or_abrupt, part}
 use Rattle.sr_model.specs.Globals.{marked, either}
@@ -19,8 +19,7 @@ value_in (Some v) = v
 -- goes on with the value of a normal end. Another end is the end of the task (ECMA-262 5.2.3.4 ReturnIfAbrupt)
 abbrev pub with_value : (Value → Steps) → Completion → Steps
 with_value k (Normal v) = k (value_in v)
-with_value k (Abrupt x) = Give (Abrupt x)
-with_value k (Leave o) = Give (Leave o)
+with_value k o = Give o
 
 -- ends with a value
 abbrev pub give_value : Value → Steps
@@ -37,13 +36,9 @@ text_limit = 16777216
 abbrev pub text_cost : Text → ℕ
 text_cost text = length text / 256
 
--- pays for a text
-abbrev pub paid_for : Text → Steps → Steps
-paid_for text k = pay (text_cost text) k
-
 -- stops where a text is too long for a string, and else pays for it and goes on
 abbrev pub made : Text → Steps → Steps
-made text k = either (nat_le (length text) text_limit) (paid_for text k) (Halt StringLength)
+made text k = either (nat_le (length text) text_limit) (pay (text_cost text) k) (Halt StringLength)
 
 -- goes on with what a computation comes to
 abbrev pub computed : {A : Type 0} → outcome.Computed A → (A → Steps) → Steps

@@ -12,17 +12,17 @@ mod frame;
 mod globals;
 /// Parts, payments and ends, as the rows need them.
 mod parts;
-/// A realm.
+/// What joins realms.
 mod realm;
 /// Numbers of stages, and what stands at a place of a list.
 mod stages;
 /// The state.
 mod state;
 
-pub use ends::{Abrupt, Answer, Charge, Completion, Leaving, Next, Over, StopName};
+pub use ends::{Abrupt, Answer, Completion, Leaving, Next, Over, StopName};
 pub use errors::{ErrorName, ErrorObject, syntax_message};
 pub use frame::{Activity, BuiltIn, Frame};
 pub use parts::string_cost;
-pub use realm::{Kept, Link};
+pub use realm::Link;
 pub use stages::{after, before, here};
 pub use state::{Level, State};

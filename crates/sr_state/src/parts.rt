@@ -1,4 +1,4 @@
-ghost use Rattle.std.specs.Prelude.{◌≡◌, ◌++◌, length, Option, Some, option_map, IfOk, OnOk};
+ghost use Rattle.std.specs.Prelude.{◌≡◌, ◌++◌, length, Option, Some, is_some, option_map, IfOk, OnOk};
 ghost use Rattle.sr_conv.specs.Plain.{value_of, option_of};
 ghost use Rattle.sr_conv.specs.Answers.{operated_of};
 ghost use Rattle.sr_conv.specs.Operators.{Joins};
@@ -7,9 +7,9 @@ ghost use Rattle.sr_state.specs.Trees.{value_in, text_in};
 ghost use Rattle.sr_state.specs.Ends.{Comes};
 ghost use Rattle.sr_state.specs.Held.{pay_in, begun_in, keeping};
 ghost use Rattle.sr_state.specs.Step.{operand_of};
-ghost use Rattle.sr_state.specs.Parts.{Starts, Spends, Paying, Enters, Evaluates, Opens, Resumes, ResumesValue, BeginsPart, BeginsWith, Becomes, EndsWith, Makes, Operates, IsCost, no_error, operand_told, part_frame, part_begun, kept_in, PaysFor, PaysKept, performing};
+ghost use Rattle.sr_state.specs.Parts.{Starts, Paying, Enters, Evaluates, Opens, Resumes, ResumesValue, BeginsPart, BeginsWith, Becomes, EndsWith, Makes, Operates, IsCost, no_error, operand_told, part_begun, kept_in, PaysFor, PaysKept, performing};
 
-use crate::ends::{Abrupt, Answer, Charge, Completion, Next, Over, StopName};
+use crate::ends::{Abrupt, Answer, Completion, Next, Over, StopName};
 use crate::frame::{Activity, BuiltIn, Frame};
 use crate::state::State;
 use sqlite_items::Items;
@@ -53,36 +53,25 @@ fn operand_in(tree: &Tree) -> Result<Option<Operand<'_>>, AllocError>
     }
 }
 
+/// Whether a tree is a literal or a name.
+fn is_operand(tree: &Tree) -> bool
+    ensures { result ≡ is_some (operand_of tree.now) }
+{
+    match &tree.node {
+        Node::Null | Node::Bool(_) | Node::Num(_) | Node::Text(_) | Node::Name(_) => true,
+        _ => false,
+    }
+}
+
 impl State {
     /// A step begins. One that was given an end is over.
+    #[inline(always)]
     fn start(&mut self) -> Result<(), Next>
         ensures { Starts self.old result self.new }
     {
         match self.take_answer() {
             Answer::Done(_) => Err(Next::Going),
             Answer::Empty => Ok(()),
-        }
-    }
-
-    /// Pays so many steps, or the step is over.
-    fn spend(&mut self, cost: u64) -> Result<(), Next>
-        ensures { Spends cost (pay_in cost) self.old result self.new }
-    {
-        match self.charge(cost) {
-            Charge::Taken => Ok(()),
-            Charge::Bound => Err(self.out_of_steps(cost)),
-            Charge::Cut => Err(Next::CutOff),
-        }
-    }
-
-    /// Pays the step of a tree of the frame on top that begins at this place, counted in code units, or the step is over.
-    fn spend_at(&mut self, at: usize) -> Result<(), Next>
-        ensures { Spends 1 (begun_in self.old.top.source at) self.old result self.new }
-    {
-        match self.charge_tree(self.top().source, at) {
-            Charge::Taken => Ok(()),
-            Charge::Bound => Err(self.out_of_steps(1)),
-            Charge::Cut => Err(Next::CutOff),
         }
     }
 
@@ -96,6 +85,7 @@ impl State {
 
     /// Pays the step of a tree of the frame on top that begins at this place, counted in code units, as a step begins, or the step
     /// is over.
+    #[inline(always)]
     pub fn begin(&mut self, at: usize) -> Result<(), Next>
         ensures { Paying 1 (begun_in self.old.top.source at) self.old result self.new }
     {
@@ -118,30 +108,20 @@ impl State {
         }
     }
 
-    /// A frame of a part of what the frame on top carries out.
-    fn part_frame(&self, part: &Shared<Tree>) -> Result<Frame, AllocError>
-        ensures { IfOk result (λ frame. frame ≡ part_frame part.now self.now.top) }
-    {
-        let code = Activity::Tree(Code::new(part)?);
-        let top = self.top();
-        Ok(Frame::new(code, top.source, top.calls, Items::new(self.alloc())))
-    }
-
     /// Makes a frame for a part, above the one on top.
-    fn push_part(&mut self, part: &Shared<Tree>) -> Result<Next, AllocError>
-        ensures next { IfOk result (λ next. next ≡ Next.Going) }
-        ensures state { OnOk result (self.new ≡ part_begun part.now self.old) }
+    fn push_part(&mut self, part: &Shared<Tree>) -> Result<(), AllocError>
+        ensures { OnOk result (self.new ≡ part_begun part.now self.old) }
     {
-        let frame = self.part_frame(part)?;
-        self.push(frame)?;
-        Ok(Next::Going)
+        self.push(Activity::Tree(Code::new(part)?))
     }
 
     /// The frame on top goes on as that of a tree.
     pub fn become_part(&mut self, part: &Shared<Tree>) -> Result<Next, Over>
         ensures { Comes result (λ next. Becomes part.now self.old next self.new) }
     {
-        let frame = self.part_frame(part)?;
+        let code = Activity::Tree(Code::new(part)?);
+        let top = self.top();
+        let frame = Frame::new(code, top.source, top.calls, Items::new(self.alloc()));
         self.replace_top(frame);
         Ok(Next::Going)
     }
@@ -165,7 +145,10 @@ impl State {
         ensures { Opens part.now self.old result self.new }
     {
         match operand_in(part.get())? {
-            None => Err(Over::Next(self.push_part(part)?)),
+            None => {
+                self.push_part(part)?;
+                Err(Over::Next(Next::Going))
+            }
             Some(operand) => self.evaluate(operand, part.get()),
         }
     }
@@ -192,13 +175,15 @@ impl State {
     }
 
     /// Begins a part later in a step: before a literal or a name the step ends, and for any other a frame is made.
+    #[inline(always)]
+    #[tactic(auto, using(crate::proofs::Operands::operand_there, crate::proofs::Operands::no_operand))]
     pub fn begin_part(&mut self, part: &Shared<Tree>) -> Result<Next, Over>
         ensures { Comes result (λ next. BeginsPart part.now self.old next self.new) }
     {
-        match operand_in(part.get())? {
-            Some(_) => Ok(Next::Going),
-            None => Ok(self.push_part(part)?),
+        if !is_operand(part.get()) {
+            self.push_part(part)?;
         }
+        Ok(Next::Going)
     }
 
     /// Pays the step of the tree of the frame on top, which begins at this place, counted in code units, and begins its first part:
@@ -212,6 +197,7 @@ impl State {
     }
 
     /// The frame on top ends.
+    #[inline(always)]
     pub fn end(&mut self, end: Completion) -> Next
         ensures { EndsWith end self.old result self.new }
     {
@@ -220,6 +206,7 @@ impl State {
     }
 
     /// The frame on top ends with a value.
+    #[inline(always)]
     pub fn give(&mut self, value: Value) -> Next
         ensures { EndsWith (completion.Normal (Some value)) self.old result self.new }
     {

@@ -3,19 +3,55 @@ ghost use Rattle.sr_model.specs.Values.{Object};
 ghost use Rattle.sr_conv.specs.Plain.{value_of, option_of};
 ghost use Rattle.sr_model.specs.Globals.{assigned, accepted, error_made, error_in, global_value, next_object, next_source};
 ghost use Rattle.sr_state.specs.Errors.{name_text, error_of};
-ghost use Rattle.sr_state.specs.Held.{Charges, Begins, first, idle, with_side, line_in, change_in, realm_in, cut_in, answered, topped, staged, keeping, listing, numbered, deeper, above, below, is_idle};
+ghost use Rattle.sr_state.specs.Kept.{own_of};
+ghost use Rattle.sr_state.specs.Parts.{Spends};
+ghost use Rattle.sr_state.specs.Held.{first, fresh_frame, fresh_own, pay_in, begun_in, idle, with_side, line_in, change_in, realm_in, cut_in, answered, topped, staged, keeping, listing, numbered, deeper, above, below, is_idle};
 
-use crate::ends::{Answer, Charge, Next, StopName};
+use crate::ends::{Answer, Next, StopName};
 use crate::errors::{ErrorName, ErrorObject};
 use crate::frame::{Activity, Frame};
-use crate::realm::{Kept, Link};
+use crate::globals::Globals;
+use crate::realm::Link;
 use sqlite_items::Items;
 use sr_ast::ScriptCode;
-use sr_tag::Path;
+use sr_tag::{Path, Ref, Tag};
 use sr_text::Str;
 use sr_value::Value;
 use std::alloc::{AllocError, Global};
 use std::marker::Model;
+
+/// A realm: what it holds, and the places of its children in the table of all realms.
+#[derive(Drop)]
+pub struct Kept {
+    path: Path,
+    globals: Globals,
+    sources: u32,
+    errors: Items<ErrorObject>,
+    last_source: u32,
+    last_at: usize,
+    lines: Items<Str>,
+    own: u64,
+    kids: Items<usize>,
+}
+
+impl Kept {
+    /// A realm as it is made.
+    fn new(alloc: Global, path: Path) -> Result<Kept, AllocError>
+        ensures { IfOk result (λ k. own_of k ≡ fresh_own (0 ∷ path)) }
+    {
+        Ok(Kept {
+            path,
+            globals: Globals::new(alloc)?,
+            sources: 0,
+            errors: Items::new(alloc),
+            last_source: 0,
+            last_at: 0,
+            lines: Items::new(alloc),
+            own: 0,
+            kids: Items::new(alloc),
+        })
+    }
+}
 
 /// An event that waits for the reply of another realm.
 #[derive(Drop)]
@@ -57,20 +93,21 @@ pub struct State {
 }
 
 impl Model for State {
-    ghost use Rattle.std.specs.Prelude.{◌≤◌, ◌<◌, reverse, length, slice_set};
+    ghost use Rattle.std.specs.Prelude.{◌≤◌, ◌<◌, reverse, length, slice_set, map};
     ghost use Rattle.std.specs.Coded.{codes};
     ghost use Rattle.sr_ast.specs.contracts.tree.Tree as kind;
     ghost use Rattle.sr_state.specs.Held.{Held, blank};
+    ghost use Rattle.sr_state.specs.Kept.{own_of};
 
     ghost Value = { Held };
 
     ghost coded = { Prim.hlevel (codes, kind.the_row.coded) };
 
     ghost view = { λ s. record {
-      side = record { own = s.here; used = s.used };
+      side = record { own = own_of s.here; used = s.used };
       outer = record {
         here = s.place;
-        others = slice_set s.others.items s.place blank;
+        others = slice_set (map own_of s.others.items) s.place blank;
         links = s.links;
         below = reverse s.below;
         bound = s.bound;
@@ -81,7 +118,7 @@ impl Model for State {
       frames = reverse s.frames;
     } };
 
-    ghost invariant = { λ s. (s.used ≤ s.bound) × (s.here.realm.own ≤ s.used) };
+    ghost invariant = { λ s. (s.used ≤ s.bound) × (s.here.own ≤ s.used) };
 }
 
 impl State {
@@ -118,7 +155,7 @@ impl State {
     pub fn global(&self, name: &Str) -> Result<Option<Value>, AllocError>
         ensures { IfOk result (λ v. option_of v ≡ global_value name.now (realm_in self.now.side)) }
     {
-        self.here.global(name)
+        self.here.globals.get(name)
     }
 
     /// Accepts a source that declares these names by `var`, and answers its number.
@@ -126,14 +163,19 @@ impl State {
         ensures number { IfOk result (λ n. n ≡ next_source (realm_in self.old.side)) }
         ensures accepted { OnOk result (self.new ≡ with_side self.old (change_in (accepted script.now.names) self.old.side)) }
     {
-        self.here.accept(script)
+        let Some(number) = self.here.sources.checked_add(1) else {
+            return Err(AllocError);
+        };
+        self.here.globals.declare_all(script.names())?;
+        self.here.sources = number;
+        Ok(number)
     }
 
     /// Gives a name of the global object a value.
     pub fn assign(&mut self, name: &Str, value: Value) -> Result<(), AllocError>
         ensures { OnOk result (self.new ≡ with_side self.old (change_in (assigned name.now (value_of value)) self.old.side)) }
     {
-        self.here.assign(name, value)
+        self.here.globals.set(name, value)
     }
 
     /// Makes an error object, and answers its value (ECMA-262 20.5.1.1).
@@ -141,21 +183,23 @@ impl State {
         ensures value { IfOk result (λ v. value_of v ≡ Object (next_object (realm_in self.old.side))) }
         ensures made { OnOk result (self.new ≡ with_side self.old (change_in (error_made (record { name = name_text name; message = message })) self.old.side)) }
     {
-        self.here.make_error(name, message)
+        let place = self.here.errors.len();
+        self.here.errors.push(ErrorObject { name, message })?;
+        Ok(Value::Obj(Ref::at(Tag { number: 0 }, place)))
     }
 
     /// The error object at a place, counted from 0: the one that is numbered from 1 by one more.
     pub fn error(&self, place: usize) -> Option<&ErrorObject>
         ensures { option_map (λ e. error_of e.now) result ≡ error_in (realm_in self.now.side) (suc place) }
     {
-        self.here.error(place)
+        self.here.errors.get(place)
     }
 
     /// Prints a line, as far as the realm remembers it.
     pub fn add_line(&mut self, line: Str) -> Result<(), AllocError>
         ensures { OnOk result (self.new ≡ with_side self.old (line_in line self.old.side)) }
     {
-        self.here.add_line(line)
+        self.here.lines.push(line)
     }
 
     /// Whether a cut is next here, which only a replay knows of.
@@ -164,58 +208,47 @@ impl State {
     {
         match self.cut {
             None => false,
-            Some(steps) => steps == self.here.steps(),
+            Some(steps) => steps == self.here.own,
         }
     }
 
-    /// Pays steps, where no cut is next and the bound has room for them.
-    pub fn charge(&mut self, cost: u64) -> Charge
-        ensures { Charges cost self.old result self.new }
+    /// Pays so many steps, or the step is over: a cut is next here, or the bound has no room for them.
+    pub fn spend(&mut self, cost: u64) -> Result<(), Next>
+        ensures { Spends cost (pay_in cost) self.old result self.new }
     {
         if self.is_cut() {
-            Charge::Cut
+            Err(Next::CutOff)
         } else if cost <= self.bound - self.used {
             self.used += cost;
-            self.here.pay(cost);
-            Charge::Taken
+            self.here.own += cost;
+            Ok(())
         } else {
-            Charge::Bound
+            Err(Next::Halt(StopName::Steps(self.used, cost)))
         }
     }
 
-    /// Pays the step of a tree that begins at this place of a source, counted in code units, as its evaluation begins.
-    pub fn charge_tree(&mut self, source: u32, at: usize) -> Charge
-        ensures { Begins source at self.old result self.new }
+    /// Pays the step of a tree of the frame on top that begins at this place, counted in code units, or the step is over.
+    pub fn spend_at(&mut self, at: usize) -> Result<(), Next>
+        ensures { Spends 1 (begun_in self.old.top.source at) self.old result self.new }
     {
-        match self.charge(1) {
-            Charge::Taken => {
-                self.here.mark(source, at);
-                Charge::Taken
-            }
-            Charge::Bound => Charge::Bound,
-            Charge::Cut => Charge::Cut,
-        }
-    }
-
-    /// The stop of a charge for which the bound has no room.
-    pub fn out_of_steps(&self, cost: u64) -> Next
-        ensures { result ≡ Next.Halt (StopName.Steps self.now.side.used cost) }
-    {
-        Next::Halt(StopName::Steps(self.used, cost))
+        self.spend(1)?;
+        self.here.last_source = self.top.source;
+        self.here.last_at = at;
+        Ok(())
     }
 
     /// The source of the last tree whose charge was paid, and 0 where none has paid.
     pub fn last_source(&self) -> u32
         ensures { result ≡ (let r = realm_in self.now.side in let i = r.inner in let h = i.rest in let l = h.last in l.source) }
     {
-        self.here.last_source()
+        self.here.last_source
     }
 
     /// The start of that tree.
     pub fn last_at(&self) -> usize
         ensures { result ≡ (let r = realm_in self.now.side in let i = r.inner in let h = i.rest in let l = h.last in l.at) }
     {
-        self.here.last_at()
+        self.here.last_at
     }
 
     /// What the frame on top is given.
@@ -234,6 +267,7 @@ impl State {
     }
 
     /// Gives the frame on top an answer.
+    #[inline(always)]
     pub fn put_answer(&mut self, answer: Answer)
         ensures { self.new ≡ answered answer self.old }
     {
@@ -321,11 +355,20 @@ impl State {
         self.top = frame;
     }
 
-    /// A frame is put above the one on top.
-    pub fn push(&mut self, frame: Frame) -> Result<(), AllocError>
-        ensures { OnOk result (self.new ≡ above frame self.old) }
+    /// A frame that begins this is put above the one on top, of the same source, with the same active calls. Its fields change in
+    /// place.
+    pub fn push(&mut self, activity: Activity) -> Result<(), AllocError>
+        ensures { OnOk result (self.new ≡ (let h = self.old in let f = h.top in above (fresh_frame activity f.source f.calls []) h)) }
     {
-        let waiting = std::mem::replace(&mut self.top, frame);
+        let waiting = Frame {
+            activity: std::mem::replace(&mut self.top.activity, activity),
+            source: self.top.source,
+            stage: self.top.stage,
+            calls: self.top.calls,
+            value: self.top.value.take(),
+            list: std::mem::replace(&mut self.top.list, Items::new(self.alloc)),
+        };
+        self.top.stage = 0;
         self.frames.push(waiting)
     }
 

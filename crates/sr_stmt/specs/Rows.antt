@@ -43,10 +43,6 @@ tree_or (Some t) body = t
 abbrev pub plain_loop : Tree → Tree → Loop
 plain_loop test body = record { test = Some test; update = None; body = body }
 
--- the value of a loop after a turn, by how its body ended and the value before
-abbrev pub value_after : Option Value → Value → Value
-value_after w v = value_in (update_empty w (Some v))
-
 -- goes on with the value so far, after a part with this value
 abbrev pub updated : (Option Value → Steps) → Option Value → Option Value → Steps
 updated k v w = k (update_empty w v)
@@ -104,7 +100,7 @@ module _ (s e : ℕ) where
   again l place v = Become (Operate (Repeat s e l place v))
 
   abbrev pub turned : Loop → Value → Option Value → Steps
-  turned l v w = again l (after_body l.update l.test) (value_after w v)
+  turned l v w = again l (after_body l.update l.test) (value_in (update_empty w (Some v)))
 
   abbrev pub turn : Loop → Value → Steps
   turn l v = evaluated s e l.body (turned l v)

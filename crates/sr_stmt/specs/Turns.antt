@@ -12,7 +12,7 @@ use Rattle.sr_value.specs.declared.value.Value.{Value}
 use Rattle.sr_model.specs.Values.{Object}
 use Rattle.sr_model.specs.Outcomes.{Normal}
 use Rattle.sr_model.specs.Scripts.{Give}
-use Rattle.sr_model.specs.Globals.{Error, accepted, error_made, next_object, next_source}
+use Rattle.sr_model.specs.Globals.{accepted, error_made, next_object, next_source}
 use Rattle.sr_conv.specs.Plain.{value_of}
 use Rattle.sr_state.specs.Work.{Loop}
 use Rattle.sr_state.specs.declared.ends.Abrupt.TheVariants as abrupt
@@ -47,17 +47,14 @@ Keeps t old (Ok u) new =
 Keeps t old (Err e) new = Resumes t old (Err e) new
 
 -- the condition of a loop is next, or the body where it has none
-abbrev pub to_test : Option Tree → Tree → Held → Next → Held → Type 0
-to_test (Some t) body old n new = BeginsPart t (staged 1 old) n new
-to_test None body old n new = BeginsPart body (staged 2 old) n new
-
-abbrev pub ToTest : Loop → Held → Next → Held → Type 0
-ToTest l old n new = to_test l.test l.body old n new
+abbrev pub ToTest : Option Tree → Tree → Held → Next → Held → Type 0
+ToTest (Some t) body old n new = BeginsPart t (staged 1 old) n new
+ToTest None body old n new = BeginsPart body (staged 2 old) n new
 
 -- the first turn of a loop is next
 abbrev pub BeginsTurns : Bool → Loop → Held → Next → Held → Type 0
 BeginsTurns true l old n new = BeginsPart l.body (staged 2 old) n new
-BeginsTurns false l old n new = ToTest l old n new
+BeginsTurns false l old n new = ToTest l.test l.body old n new
 
 -- the next statement, at which the frame is at this stage, or the end with the value so far
 abbrev pub Continues : ℕ → Option Tree → Held → Next → Held → Type 0
@@ -70,18 +67,12 @@ Statement None next old n new = Continues 0 None old n new
 Statement (Some t) next old n new =
     Keeps t old (Err (over.Next n)) new ⊎ ((mid : Held) × Keeps t old (Ok tt) mid × (let f = mid.top in Continues (suc f.stage) next mid n new))
 
--- the value of a declaration
-abbrev pub initial_of : Declaration → Option Tree
-initial_of d = (let o = out-Declaration d in o.value)
-
--- the declarations from this place on begin with one that has this value
-abbrev pub HasValue : ℕ → List Declaration → Tree → Type 0
-HasValue place ds t = (d : Declaration) × (drop place ds ≡ d ∷ drop (suc place) ds) × (initial_of d ≡ Some t)
-
 -- those from a place on do what those from a later place on do, which begin with one that has a value; or there is none
 abbrev pub IsNext : ℕ → List Declaration → Option Initializer → Type 0
 IsNext from ds None = (s : ℕ) → declare s 0 (drop from ds) ≡ Give (Normal None)
-IsNext from ds (Some v) = HasValue v.place ds v.value.now × ((s : ℕ) → declare s 0 (drop from ds) ≡ declare s 0 (drop v.place ds))
+IsNext from ds (Some v) =
+    ((d : Declaration) × (drop v.place ds ≡ d ∷ drop (suc v.place) ds) × (let o = out-Declaration d in o.value ≡ Some v.value.now))
+    × ((s : ℕ) → declare s 0 (drop from ds) ≡ declare s 0 (drop v.place ds))
 
 -- a value is next, or where there is none the end
 abbrev pub begins : Option Initializer → Held → Next → Held → Type 0
@@ -100,15 +91,11 @@ accepted_in x h = numbered (next_source (realm_in h.side)) (with_side h (change_
 abbrev pub Accepts : Script → Held → Next → Held → Type 0
 Accepts x old n new = (first : Option Tree) × Here 0 x.body first × Continues 2 first (keeping None (accepted_in x old)) n new
 
--- an error is made and thrown
-abbrev pub Throws : Error → Held → Next → Held → Type 0
-Throws e old n new =
-    (v : Value) × (value_of v ≡ Object (next_object (realm_in old.side)))
-    × EndsWith (completion.Abrupt (abrupt.Throw v)) (with_side old (change_in (error_made e) old.side)) n new
-
 -- what is no script ends by a SyntaxError or by a stop
 abbrev pub Refuses : Refused → Held → Next → Held → Type 0
-Refuses (refused.Syntax at) old n new = Throws (syntax_error at) old n new
+Refuses (refused.Syntax at) old n new =
+    (v : Value) × (value_of v ≡ Object (next_object (realm_in old.side)))
+    × EndsWith (completion.Abrupt (abrupt.Throw v)) (with_side old (change_in (error_made (syntax_error at)) old.side)) n new
 Refuses (refused.Unsupported marker at) old n new = (n ≡ next.Halt (stop.Unsupported marker at)) × (new ≡ old)
 Refuses refused.TooDeep old n new = (n ≡ next.Halt stop.SyntaxDepth) × (new ≡ old)
 

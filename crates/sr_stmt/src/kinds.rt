@@ -20,8 +20,7 @@ fn statement(state: &mut State, tree: &Tree) -> Result<Next, Over>
 {
     let at = tree.from;
     match &tree.node {
-        Node::Expression(part) => expression(state, at, part),
-        Node::Directive(part) => expression(state, at, part),
+        Node::Expression(part) | Node::Directive(part) => expression(state, at, part),
         Node::Var(declarations) => variables(state, at, declarations),
         Node::Block(statements) => block(state, at, statements),
         Node::If(test, yes, no) => choice(state, at, test, yes, no.as_ref()),

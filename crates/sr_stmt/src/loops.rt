@@ -59,7 +59,7 @@ fn to_body(state: &mut State, looping: Looping<'_>) -> Result<Next, Over>
 
 /// The condition is next, or the body where there is none.
 fn to_test(state: &mut State, looping: Looping<'_>) -> Result<Next, Over>
-    ensures { Comes result (λ next. ToTest (loop_of looping.entry) state.old next state.new) }
+    ensures { Comes result (λ next. ToTest (option_copied looping.entry.test) looping.entry.body.now state.old next state.new) }
 {
     match looping.test {
         None => to_body(state, looping),
