@@ -25,7 +25,7 @@ use Rattle.sr_state.specs.Held.{Held, realm_in}
 use Rattle.sr_machine.specs.Language.{language, throw_report}
 use Rattle.sr_machine.specs.Worlds.{Tapes, Here, world_of, place_of}
 use Rattle.sr_machine.specs.Going.{IsWhy, AtRest}
-use Rattle.sr_machine.specs.Running.{thrown_of, thrown_in, source_run, source_tapes}
+use Rattle.sr_machine.specs.Running.{thrown_of, thrown_in, source_tapes}
 use Rattle.sr_machine.specs.Running as running
 use Rattle.sr_machine.specs.declared.live.StopAt.{StopAt}
 use Rattle.sr_machine.proofs.Worlds.{realm_here, at_root}

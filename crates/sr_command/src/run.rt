@@ -14,6 +14,7 @@ ghost use Rattle.sr_command.specs.Runs.{not_built, too_long, RunsReading, RunsTe
 ghost use Rattle.sr_command.specs.Reaching.{ComesTo, RanOut, Reaches};
 
 use crate::Status;
+use crate::words::Asked;
 use sr_ast::SourceCode;
 use sr_machine::{Advance, Live, StopAt};
 use sr_num::NumStop;
@@ -197,17 +198,16 @@ fn end_of_run<E: Sink>(
     }
 }
 
-/// Runs the source of a text that was given to a run with this bound of steps, in a file of this name.
+/// Runs the source of a text that was given to a run, as it was asked.
 fn run_to_end<O: Sink, E: Sink>(
     alloc: Global,
-    bound: u64,
-    name: &str,
+    asked: Asked<'_>,
     live: &mut Live,
     out: &mut O,
     err: &mut E,
 ) -> Result<Status, WriteRefusal>
-    requires { (text : List ℕ) × (r : Reading) × (live.old ≡ given bound (source_of (λ _. r) text)) }
-    ensures reaches { (text : List ℕ) (r : Reading) → live.old ≡ given bound (source_of (λ _. r) text) → Reaches (RunsReading bound name.now text r) result (streams (O.written out.old) (E.written err.old)) (streams (O.written out.new) (E.written err.new)) }
+    requires { (text : List ℕ) × (r : Reading) × (live.old ≡ given asked.bound (source_of (λ _. r) text)) }
+    ensures reaches { (text : List ℕ) (r : Reading) → live.old ≡ given asked.entry.bound (source_of (λ _. r) text) → Reaches (RunsReading asked.entry.bound asked.entry.name.now text r) result (streams (O.written out.old) (E.written err.old)) (streams (O.written out.new) (E.written err.new)) }
     ensures read { result ≡ Ok Status.ReadFailed → ⊥ }
     ensures cause { IsErrOf result WriteRefusal.Failed → Rose (O.faults out.old) (O.faults out.new) ⊎ Rose (E.faults err.old) (E.faults err.new) }
     ensures out_faults { O.faults out.old ≤ O.faults out.new }
@@ -216,75 +216,73 @@ fn run_to_end<O: Sink, E: Sink>(
     'steps: loop {
         match live.advance(out) {
             Advance::Going => continue 'steps,
-            Advance::Thrown(text) => return end_of_run(alloc, name, Some(text), err),
-            Advance::Done => return end_of_run(alloc, name, None, err),
-            Advance::Stop(stop) => return end_by_stop(alloc, bound, stop, err),
+            Advance::Thrown(text) => return end_of_run(alloc, asked.name, Some(text), err),
+            Advance::Done => return end_of_run(alloc, asked.name, None, err),
+            Advance::Stop(stop) => return end_by_stop(alloc, asked.bound, stop, err),
             Advance::Write => return Err(WriteRefusal::Failed),
             Advance::Memory => return Err(WriteRefusal::Memory),
         }
     }
 }
 
-/// Runs the source of a text that a file of this name has, with this bound of steps.
+/// Runs the source of a text that the file has.
 fn run_source<O: Sink, E: Sink>(
     alloc: Global,
-    bound: u64,
-    name: &str,
+    asked: Asked<'_>,
     source: SourceCode,
     out: &mut O,
     err: &mut E,
 ) -> Result<Status, WriteRefusal>
     requires { (text : List ℕ) × (source.units ≡ length text) }
-    ensures reaches { (text : List ℕ) → source.units ≡ length text → Reaches (RunsReading bound name.now text source.reading) result (streams (O.written out.old) (E.written err.old)) (streams (O.written out.new) (E.written err.new)) }
+    ensures reaches { (text : List ℕ) → source.units ≡ length text → Reaches (RunsReading asked.entry.bound asked.entry.name.now text source.reading) result (streams (O.written out.old) (E.written err.old)) (streams (O.written out.new) (E.written err.new)) }
     ensures read { result ≡ Ok Status.ReadFailed → ⊥ }
     ensures cause { IsErrOf result WriteRefusal.Failed → Rose (O.faults out.old) (O.faults out.new) ⊎ Rose (E.faults err.old) (E.faults err.new) }
     ensures out_faults { O.faults out.old ≤ O.faults out.new }
     ensures err_faults { E.faults err.old ≤ E.faults err.new }
 {
-    let mut live = Live::open(alloc, bound)?;
+    let mut live = Live::open(alloc, asked.bound)?;
     live.give_source(source);
-    run_to_end(alloc, bound, name, &mut live, out, err)
+    run_to_end(alloc, asked, &mut live, out, err)
 }
 
-/// Runs a text that a file of this name has.
+/// Runs a text that the file has.
 fn run_text<O: Sink, E: Sink>(
     alloc: Global,
-    bound: u64,
-    name: &str,
+    asked: Asked<'_>,
     text: &Str,
     out: &mut O,
     err: &mut E,
 ) -> Result<Status, WriteRefusal>
-    ensures reaches { Reaches (RunsText bound name.now text.now) result (streams (O.written out.old) (E.written err.old)) (streams (O.written out.new) (E.written err.new)) }
+    ensures reaches { Reaches (RunsText asked.entry.bound asked.entry.name.now text.now) result (streams (O.written out.old) (E.written err.old)) (streams (O.written out.new) (E.written err.new)) }
     ensures read { result ≡ Ok Status.ReadFailed → ⊥ }
     ensures cause { IsErrOf result WriteRefusal.Failed → Rose (O.faults out.old) (O.faults out.new) ⊎ Rose (E.faults err.old) (E.faults err.new) }
     ensures out_faults { O.faults out.old ≤ O.faults out.new }
     ensures err_faults { E.faults err.old ≤ E.faults err.new }
 {
     match read_source(alloc, text)? {
-        Some(source) => run_source(alloc, bound, name, source, out, err),
-        None => end_not_built(alloc, name, err),
+        Some(source) => run_source(alloc, asked, source, out, err),
+        None => end_not_built(alloc, asked.name, err),
     }
 }
 
-/// Runs a file of this name and these bytes.
+/// Runs the file, which has these bytes.
 fn run_bytes<O: Sink, E: Sink>(
     alloc: Global,
-    bound: u64,
-    name: &str,
+    asked: Asked<'_>,
     bytes: &[u8],
     out: &mut O,
     err: &mut E,
 ) -> Result<Status, WriteRefusal>
-    ensures reaches { Reaches (RunsFile bound name.now (Text bytes.now)) result (streams (O.written out.old) (E.written err.old)) (streams (O.written out.new) (E.written err.new)) }
+    ensures reaches { Reaches (RunsFile asked.entry.bound asked.entry.name.now (Text bytes.now)) result (streams (O.written out.old) (E.written err.old)) (streams (O.written out.new) (E.written err.new)) }
     ensures read { result ≡ Ok Status.ReadFailed → ⊥ }
     ensures cause { IsErrOf result WriteRefusal.Failed → Rose (O.faults out.old) (O.faults out.new) ⊎ Rose (E.faults err.old) (E.faults err.new) }
     ensures out_faults { O.faults out.old ≤ O.faults out.new }
     ensures err_faults { E.faults err.old ≤ E.faults err.new }
 {
     match Str::from_utf8(alloc, bytes) {
-        Ok(text) => run_text(alloc, bound, name, &text, out, err),
+        Ok(text) => run_text(alloc, asked, &text, out, err),
         Err(TextRefusal::NotUtf8(at)) => {
+            let name = asked.name;
             let line = format!(in alloc; "not UTF-8: {name} at {at}\n")?;
             end_with(line.as_bytes(), Status::NoText, err)
         }
@@ -293,27 +291,27 @@ fn run_bytes<O: Sink, E: Sink>(
     }
 }
 
-/// Loads a file and runs it.
+/// Loads the file and runs it.
 pub(crate) fn run_file<L: Loader, O: Sink, E: Sink>(
     alloc: Global,
-    bound: u64,
-    name: &str,
+    asked: Asked<'_>,
     loader: &mut L,
     out: &mut O,
     err: &mut E,
 ) -> Result<Status, WriteRefusal>
-    ensures reaches { ((answer : Loaded) × (L.last loader.new ≡ Some (name.now, answer))
-        × Reaches (RunsFile bound name.now answer) result (streams (O.written out.old) (E.written err.old)) (streams (O.written out.new) (E.written err.new)))
+    ensures reaches { ((answer : Loaded) × (L.last loader.new ≡ Some (asked.entry.name.now, answer))
+        × Reaches (RunsFile asked.entry.bound asked.entry.name.now answer) result (streams (O.written out.old) (E.written err.old)) (streams (O.written out.new) (E.written err.new)))
         ⊎ RanOut result (streams (O.written out.old) (E.written err.old)) (streams (O.written out.new) (E.written err.new)) }
     ensures asked_once { Raised (L.calls loader.old) (L.calls loader.new) }
-    ensures honest { L.faults loader.new ≡ L.faults loader.old → IfSome (L.last loader.new) (λ last. IsHeld (L.held loader.old) name.now (Ok last.1)) }
+    ensures honest { L.faults loader.new ≡ L.faults loader.old → IfSome (L.last loader.new) (λ last. IsHeld (L.held loader.old) asked.entry.name.now (Ok last.1)) }
     ensures read_cause { result ≡ Ok Status.ReadFailed → Rose (L.faults loader.old) (L.faults loader.new) }
     ensures cause { IsErrOf result WriteRefusal.Failed → Rose (O.faults out.old) (O.faults out.new) ⊎ Rose (E.faults err.old) (E.faults err.new) }
     ensures out_faults { O.faults out.old ≤ O.faults out.new }
     ensures err_faults { E.faults err.old ≤ E.faults err.new }
 {
+    let name = asked.name;
     match loader.load(name.as_bytes())? {
-        Loaded::Text(bytes) => run_bytes(alloc, bound, name, bytes.as_slice(), out, err),
+        Loaded::Text(bytes) => run_bytes(alloc, asked, bytes.as_slice(), out, err),
         Loaded::Absent => {
             let line = format!(in alloc; "absent: {name}\n")?;
             end_with(line.as_bytes(), Status::NoText, err)

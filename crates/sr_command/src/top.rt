@@ -98,5 +98,5 @@ fn run_words<L: Loader, O: Sink, E: Sink>(
     if is_unbuilt(asked.name) {
         return end_not_built(alloc, asked.name, err);
     }
-    run_file(alloc, asked.bound, asked.name, loader, out, err)
+    run_file(alloc, asked, loader, out, err)
 }

@@ -17,7 +17,7 @@ returns-in-Ok-clause-reaches g c =
 pub returns-in_ok-line-in-Err-NotUtf8-clause-reaches :
     goal.returns-in_ok-line-in-Err-NotUtf8-clause-reaches
 returns-in_ok-line-in-Err-NotUtf8-clause-reaches g c =
-    let line : c.as_bytes.result.now ≡ (codes "not UTF-8: " ++ c.args.name.now ++ codes " at " ++ decimal c.in-Err-NotUtf8.at) ++ 0x0A ∷ [] =
+    let line : c.as_bytes.result.now ≡ (codes "not UTF-8: " ++ c.args.asked.name.now ++ codes " at " ++ decimal c.in-Err-NotUtf8.at) ++ 0x0A ∷ [] =
     c.as_bytes.ensures.value ∙ c.in_ok-line-in-Err-NotUtf8.ensures.ok ∙ simp append_assoc in
     reached _ (not_utf8 ((c.in-Err-NotUtf8.ensures.not_utf8 c.in-Err-NotUtf8.at).0 (ap Err c.in-Err-NotUtf8.field-0-is))) (rw line at (c.end_with.ensures.comes (g.O.Sink.written c.args.out.now)))
 

@@ -10,8 +10,8 @@ given_of bound s text before after units opens gives = gives ∙ ap (giving s) o
 
 pub run_to_end-requires : goal.run_to_end-requires
 run_to_end-requires g c =
-    (c.requires.0, c.args.source.reading, given_of c.args.bound c.args.source c.requires.0 _ _ c.requires.1 c.in_ok-live.ensures c.give_source.ensures)
+    (c.requires.0, c.args.source.reading, given_of c.args.asked.bound c.args.source c.requires.0 _ _ c.requires.1 c.in_ok-live.ensures c.give_source.ensures)
 
 pub returns-clause-reaches : goal.returns-clause-reaches
 returns-clause-reaches g c = λ text units.
-    c.run_to_end.ensures.reaches text c.args.source.reading (given_of c.args.bound c.args.source text _ _ units c.in_ok-live.ensures c.give_source.ensures)
+    c.run_to_end.ensures.reaches text c.args.source.reading (given_of c.args.asked.bound c.args.source text _ _ units c.in_ok-live.ensures c.give_source.ensures)

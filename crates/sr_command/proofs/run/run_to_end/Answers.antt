@@ -7,7 +7,7 @@ use Rattle.sr_command.proofs.run.run_to_end.Goals as goal
 pub steps-init : goal.steps-init
 steps-init g c = record {
   open_run = rw c.requires.2 refl;
-  so_far = λ text x is. begun_so c.args.bound c.args.name.now text x _ _ is;
+  so_far = λ text x is. begun_so c.args.asked.bound c.args.asked.name.now text x _ _ is;
   faults = omega arith;
   err_written = refl;
   err_faults = refl;
