@@ -1,27 +1,22 @@
 -- With a larger depth a replay that came to something comes to the same; with a larger bound too, but where it came to the bound.
--- What is left of the tape only gets shorter.
-use Rattle.std.proofs.Common.{◌≡◌, ℕ, zero, suc, ◌≤◌, Bool, true, false, List, [], ◌∷◌, refl, ap, arith, nat_eq, nat_le, length}
-use borrow.Author.Tests.{leb-true}
+-- What is left of the tape only gets shorter, so that reading on has always fuel enough.
+use Rattle.std.proofs.Common.{◌≡◌, ℕ, zero, suc, ◌≤◌, ◌<◌, Bool, true, false, List, [], ◌∷◌, refl, ap, arith, nat_eq, nat_le, length}
+use borrow.Author.Tests.{le-leb, leb-true}
 use Rattle.sr_model.specs.Values.{Name, Path, same}
-use Rattle.sr_model.specs.Events.{Event, Took, Reply, Loaded, Cut}
+use Rattle.sr_model.specs.Events.{Message, Event, Took, Reply, Loaded, Cut}
 use Rattle.sr_model.specs.Ports.{Request}
 use Rattle.sr_model.specs.Scripts.{Language}
 use Rattle.sr_model.specs.World.{Slot, may_enter, has_room, fresh_slot, with_tape, with_steps}
-use Rattle.sr_worlds.specs.Evaluation.{Done, Over, provided, state_of, ev}
+use Rattle.sr_worlds.specs.Evaluation.{Done, Over, then_do, provided, state_of, ev}
 use Rattle.sr_worlds.specs.Fitting.{fits, reply_fits}
 use Rattle.sr_worlds.specs.Solo.{Bound, Unfit, Spent, SoloReach, Played, SoloMore, Again, is_cut, beyond, cut_or, solo_pay, solo_entered, solo_loaded, solo_replied, next_event, reads, read_on, awaited, solo}
 use Rattle.sr_worlds.specs.Replay.{verdict, replay}
 use Rattle.sr_worlds.specs.Laws.{gave_up, Lasts, gives_up, Known, Certain}
-use Rattle.sr_worlds.proofs.Tests.{le_true}
 use Rattle.sr_worlds.proofs.Larger.{Order, Ahead, a_from, a_test, a_then, Owed, larger}
 
 -- a replay comes further as its tape gets shorter
 abbrev reading : (R : Type 0) → Order (Slot R)
-reading R = record { Fine = λ s. Unit {0}; Before = λ s t. length t.tape ≤ length s.tape; fine = λ s t b. tt; self = λ s f. omega arith; onward = λ r s t a b. omega (arith, a, b) }
-
--- so much of the tape is left
-abbrev pub left_of : {R A : Type 0} → SoloReach R A → ℕ
-left_of r = (let s = state_of r in length s.tape)
+reading R = record { Before = λ s t. length t.tape ≤ length s.tape; fine = λ s t b. omega arith; onward = λ r s t a b. omega (arith, a, b) }
 
 -- a test of the bound, and the same of another one, which may be larger where it grows
 abbrev Wider : Bool → Bool → Bool → Type 0
@@ -88,17 +83,14 @@ module _ {T R : Type 0} (l : Language T R) (grows : Bool) (bound bound' : ℕ) (
   solo_ahead : (d e : ℕ) → d ≤ e → KeptMore (ev l (solo l bound) d) (ev l (solo l bound') e)
   solo_ahead = larger l (solo l bound) _ _ _ (gives_up grows) (reading R) solo_owes
 
-  pub solo_larger : (d e : ℕ) → d ≤ e → (c : ℕ) (s : Slot R) (t : T) → Lasts (gives_up grows) (ev l (solo l bound) d c s t) (ev l (solo l bound') e c s t)
-  solo_larger d e le c s t = (solo_ahead d e le c s t tt).0
-
   played_larger : (n m : ℕ) (p : Path) (tape : List Event) → n ≤ m → (let s = with_tape tape (fresh_slot l.born p) in Lasts (gives_up grows) (read_on l (ev l (solo l bound) n) false 0 s) (read_on l (ev l (solo l bound') m) false 0 s))
-  played_larger n m p tape le = (let s = with_tape tape (fresh_slot l.born p) in (k_reads (ev l (solo l bound) n) (ev l (solo l bound') m) (suc (length tape)) false 0 s (solo_ahead n m le) tt).0)
+  played_larger n m p tape le = (let s = with_tape tape (fresh_slot l.born p) in (k_reads (ev l (solo l bound) n) (ev l (solo l bound') m) (suc (length tape)) false 0 s (solo_ahead n m le) (omega arith)).0)
 
 same_bound : (bound n : ℕ) → Wider false (nat_le n bound) (nat_le n bound)
 same_bound bound n = (λ e. e, λ e. refl)
 
 larger_bound : (bound bound' : ℕ) → bound ≤ bound' → (n : ℕ) → Wider true (nat_le n bound) (nat_le n bound')
-larger_bound bound bound' room n = (λ e. le_true n bound' (omega (arith, leb-true n bound e, room)), λ e. cc)
+larger_bound bound bound' room n = (λ e. le-leb n bound' (omega (arith, leb-true n bound e, room)), λ e. cc)
 
 -- a verdict that stays is of a replay that had not given up
 known_stands : {R : Type 0} (count : ℕ) (r : Played R) → Known (verdict count r) → gave_up (gives_up false) r ≡ false
@@ -112,14 +104,40 @@ certain_stands count r sure = refl
 
 module _ {T R : Type 0} (l : Language T R) where
   -- a task leaves a tape that is no longer
-  pub shortens : (bound d c : ℕ) (s : Slot R) (t : T) → left_of (ev l (solo l bound) d c s t) ≤ length s.tape
-  shortens bound d c s t = (solo_ahead l false bound bound (same_bound bound) d d (omega arith) c s t tt).1
+  shortens : (bound d c : ℕ) (s : Slot R) (t : T) → (let u = state_of (ev l (solo l bound) d c s t) in length u.tape ≤ length s.tape)
+  shortens bound d c s t = (solo_ahead l false bound bound (same_bound bound) d d (omega arith) c s t (omega arith)).1
 
   pub solo_deeper : (bound d e : ℕ) → d ≤ e → (c : ℕ) (s : Slot R) (t : T) → Lasts (gives_up false) (ev l (solo l bound) d c s t) (ev l (solo l bound) e c s t)
-  solo_deeper bound = solo_larger l false bound bound (same_bound bound)
+  solo_deeper bound d e le c s t = (solo_ahead l false bound bound (same_bound bound) d e le c s t (omega arith)).0
 
   pub replay_more_depth : (bound n m : ℕ) (p : Path) (tape : List Event) → n ≤ m → Known (replay l bound n p tape) → replay l bound m p tape ≡ replay l bound n p tape
   replay_more_depth bound n m p tape le sure = ap (verdict (length tape)) (played_larger l false bound bound (same_bound bound) n m p tape le (known_stands (length tape) _ sure))
 
   pub replay_more_room : (bound bound' n m : ℕ) (p : Path) (tape : List Event) → bound ≤ bound' → n ≤ m → Certain (replay l bound n p tape) → replay l bound' m p tape ≡ replay l bound n p tape
   replay_more_room bound bound' n m p tape room le sure = ap (verdict (length tape)) (played_larger l true bound bound' (larger_bound bound bound' room) n m p tape le (certain_stands (length tape) _ sure))
+
+module _ {R : Type 0} where
+  -- what follows needs to be the same only where so much is left
+  short_same : {A B : Type 0} → (n : ℕ) (r : SoloReach R A) (f g : Slot R → A → SoloReach R B) → (let u = state_of r in length u.tape ≤ n) → ((s : Slot R) (x : A) → length s.tape ≤ n → f s x ≡ g s x) → then_do r f ≡ then_do r g
+  short_same n (Done s x) f g h all = all s x h
+  short_same n (Over s e) f g h all = refl
+
+module _ {T R : Type 0} (l : Language T R) (bound d : ℕ) where
+  abbrev f : SoloMore T R
+  f = ev l (solo l bound) d
+
+  r_next : (again again' : Again l) (waits : Bool) (c : ℕ) (s : Slot R) (tape : List Event) → ((c : ℕ) (s : Slot R) → length s.tape < length tape → again c s ≡ again' c s) → next_event l f again waits c s tape ≡ next_event l f again' waits c s tape
+  r_next again again' waits c s (Took m ∷ tape) all =
+      ap (provided (fits l waits s.realm m) s Unfit) (short_same (length tape) (f c (with_tape tape s) (l.work m)) _ _ (shortens l bound d c (with_tape tape s) (l.work m)) (λ s' o le. all c s' (omega (arith, le))))
+  r_next again again' waits c s tape all = refl
+
+  -- the number of events says nothing, where it is above the length of the tape
+  r_reads : (j k : ℕ) (waits : Bool) (c : ℕ) (s : Slot R) → length s.tape < j → length s.tape < k → reads l f j waits c s ≡ reads l f k waits c s
+  r_reads zero k waits c s a b = absurd (omega arith)
+  r_reads (suc j) zero waits c s a b = absurd (omega arith)
+  r_reads (suc j) (suc k) waits c s a b = r_next (reads l f j waits) (reads l f k waits) waits c s s.tape (λ c s' lt. r_reads j k waits c s' (omega (arith, lt)) (omega (arith, lt)))
+
+  -- an event that is next and fits
+  pub read_event : (waits : Bool) (c : ℕ) (s : Slot R) (y : Message) (tape : List Event) → s.tape ≡ Took y ∷ tape → fits l waits s.realm y ≡ true → read_on l f waits c s ≡ then_do (f c (with_tape tape s) (l.work y)) (λ s' o. read_on l f waits c s')
+  read_event waits c s y tape e fit =
+      rw e (rw fit (short_same (length tape) (f c (with_tape tape s) (l.work y)) _ _ (shortens l bound d c (with_tape tape s) (l.work y)) (λ s' o le. r_reads (suc (length tape)) (suc (length s'.tape)) waits c s' (omega (arith, le)) (omega arith))))

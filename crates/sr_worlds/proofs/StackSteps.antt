@@ -1,20 +1,20 @@
 -- The exact steps of a stack.
-use Rattle.std.proofs.Common.{◌≡◌, ℕ, zero, suc, true, false, List, refl, sym, ap, ◌∙◌, length}
+use Rattle.std.proofs.Common.{◌≡◌, ℕ, zero, suc, true, false, List, refl, sym, ap, ◌∙◌}
 use Rattle.sr_model.specs.Values.{Crossing}
 use Rattle.sr_model.specs.Outcomes.{Outcome, Completion}
 use Rattle.sr_model.specs.Ports.{reply_of}
 use Rattle.sr_model.specs.Scripts.{Script, Give, Halt, Look, Change, Part, Become, Pay, Enter, Load, Ask, Language, then_follow, IsPlain}
 use Rattle.sr_model.specs.World.{Slot, World, fresh_slot, with_tape}
-use Rattle.sr_worlds.specs.Evaluation.{Ran, Done, then_do, provided, Outside, More, follow, ev}
-use Rattle.sr_worlds.specs.Live.{Broken, LiveReach, LiveRan, LiveMore, end_at, worked, sent, asked, replied, live}
-use Rattle.sr_worlds.specs.Solo.{Unfit, SoloReach, Played, SoloMore, solo_replied, reads, read_on, next_event, solo}
+use Rattle.sr_worlds.specs.Evaluation.{Ran, Done, then_do, Outside, More, follow, ev}
+use Rattle.sr_worlds.specs.Live.{LiveReach, LiveRan, LiveMore, worked, asked, replied, live}
+use Rattle.sr_worlds.specs.Solo.{Played, SoloMore, solo_replied, read_on, solo}
 use Rattle.sr_worlds.specs.Replay.{verdict}
 use Rattle.sr_worlds.specs.Run.{idle}
 use Rattle.sr_worlds.specs.Stacks.{Frame, top, after, means, stepped, Steps}
 use Rattle.sr_worlds.specs.LiveStacks.{live_owed, LiveAsks, LiveBegins}
 use Rattle.sr_worlds.specs.SoloStacks.{Awaits, Idles, solo_after, SoloReads, SoloReplied, SoloBegins}
-use Rattle.sr_worlds.proofs.Following.{then_then, then_done}
-use Rattle.sr_worlds.proofs.Reading.{read_event}
+use Rattle.sr_worlds.proofs.Larger.{then_then, then_done}
+use Rattle.sr_worlds.proofs.SoloLarger.{read_event}
 
 module _ {T R : Type 0} (l : Language T R) (o : Outside T R) where
   -- a plain script asks nothing of what evaluates parts
@@ -49,20 +49,14 @@ module _ {T R : Type 0} (l : Language T R) (bound : ℕ) where
   pub live_asks : LiveAsks l bound
   live_asks d c w x k fs q y to fit =
       let more : LiveMore T R = ev l (live l bound) (suc d) in
-      let w1 : World R = asked c.realm q x w in
       let rest = after l (live l bound) (live_owed l bound) fs in
       let go = λ (w' : World R) (y : Outcome Crossing). follow l (live l bound) more c w' (k y) in
       let back : World R → Completion → LiveReach R (Outcome Crossing) = λ w' o. Done (replied c.realm q x o w') (reply_of x o) in
-      let work : LiveRan R = worked l more q c w1 y in
-      ap (λ z. then_do (then_do (sent l more c w x z) go) rest) to
-      ∙ ap (λ b. then_do (then_do (then_do (provided b w1 (end_at Broken c) work) back) go) rest) fit
-      ∙ ap (λ r. then_do r rest) (then_then work back go)
-      ∙ then_then work _ rest
+      let work : LiveRan R = worked l more q c (asked c.realm q x w) y in
+      rw to (rw fit (ap (λ r. then_do r rest) (then_then work back go) ∙ then_then work _ rest))
 
   pub live_begins : LiveBegins l bound
-  live_begins d p y w fit =
-      let work : LiveRan R = worked l (ev l (live l bound) (suc d)) p (idle p) w y in
-      ap (λ b. provided b w (end_at Broken (idle p)) work) fit ∙ sym (then_done work)
+  live_begins d p y w fit = rw fit (sym (then_done (worked l (ev l (live l bound) (suc d)) p (idle p) w y)))
 
   pub solo_reads : SoloReads l bound
   solo_reads d (Awaits c x k) fs s o y tape e fit =
@@ -71,21 +65,17 @@ module _ {T R : Type 0} (l : Language T R) (bound : ℕ) where
       let go = λ (s' : Slot R) (y : Outcome Crossing). follow l (solo l bound) more c s' (k y) in
       let work : Played R = more c (with_tape tape s) (l.work y) in
       ap (λ r. then_do (then_do (then_do r (λ s' o. solo_replied x s' s'.tape)) go) rest) (read_event l bound (suc d) true c s y tape e fit)
-      ∙ ap (λ r. then_do (then_do r go) rest) (then_then work _ _)
-      ∙ ap (λ r. then_do r rest) (then_then work _ go)
+      ∙ ap (λ r. then_do r rest) (ap (λ r. then_do r go) (then_then work _ _) ∙ then_then work _ go)
       ∙ then_then work _ rest
   solo_reads d Idles fs s o y tape e fit =
-      let more : SoloMore T R = ev l (solo l bound) (suc d) in
       ap (λ r. then_do r (solo_after l bound fs)) (read_event l bound (suc d) false 0 s y tape e fit)
-      ∙ then_then (more 0 (with_tape tape s) (l.work y)) _ (solo_after l bound fs)
+      ∙ then_then (ev l (solo l bound) (suc d) 0 (with_tape tape s) (l.work y)) _ (solo_after l bound fs)
 
   pub solo_takes_reply : SoloReplied l bound
-  solo_takes_reply d c x k fs s o y tape e fit =
-      let more : SoloMore T R = ev l (solo l bound) d in
-      let rest = λ (r : SoloReach R (Outcome Crossing)). then_do (then_do r (λ s' y. follow l (solo l bound) more c s' (k y))) (solo_after l bound fs) in
-      ap (λ t. rest (then_do (next_event l more (reads l more (length s.tape) true) true c s t) (λ s' o. solo_replied x s' s'.tape))) e
-      ∙ ap (λ t. rest (solo_replied x s t)) e
-      ∙ ap (λ b. rest (provided b s Unfit (Done (with_tape tape s) y))) fit
+  solo_takes_reply d c x k fs s o y tape e fit = rw e (rw fit)
 
   pub solo_begins : SoloBegins l bound
   solo_begins d p tape o = ap (verdict _) (sym (then_done (read_on l (ev l (solo l bound) d) false 0 (with_tape tape (fresh_slot l.born p)))))
+
+-- what the laws of stacks cite
+pub ruleset stack_laws = (steps, live_asks, live_begins, solo_reads, solo_takes_reply, solo_begins)

@@ -9,6 +9,7 @@ ghost use Rattle.sr_worlds.specs.Run.{File, run};
 ghost use Rattle.sr_worlds.specs.Laws.{writes_of, IsStart};
 
 /// With a larger depth a task writes the same, and perhaps more after it; so does a run, with a larger depth and more turns.
+#[tactic(auto, using(crate::proofs::LiveLarger::live_writes))]
 pub fn more_depth_only_adds_writes<T, R>()
     ensures task { (l : Language T R) (bound d e : ℕ) → d ≤ e → (c : Place) (w : World R) (t : T) →
         IsStart (writes_of (ev l (live l bound) d c w t)) (writes_of (ev l (live l bound) e c w t)) }
