@@ -1,3 +1,4 @@
+pub mod Plain
 pub mod Found
 pub mod Live
 pub mod Records

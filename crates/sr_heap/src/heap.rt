@@ -2,14 +2,20 @@ ghost use Rattle.std.specs.Prelude.{◌≡◌, [], map, length, IfOk, IfSome, On
 ghost use Rattle.std.specs.Option.{option_copied};
 ghost use Rattle.sr_value.specs.Plain.{descriptor_of, key_of, number_of, property_of};
 ghost use Rattle.sr_model.specs.Objects as spec;
+ghost use Rattle.sr_model.specs.Stores.{empty_store};
 ghost use Rattle.sr_heap.specs.Found.{found_of};
-ghost use Rattle.sr_heap.specs.Live.{IsLive, IsLiveDescriptor, IsLiveFound, IsLiveProperty, KeepsLive, extent};
+ghost use Rattle.sr_heap.specs.Live.{IsLive, IsLiveDescriptor, IsLiveFound, IsLiveKind, IsLiveProperty, KeepsLive, extent, with_objects};
+ghost use Rattle.sr_heap.specs.Plain.{kind_of};
 
-use crate::Found;
+use crate::environments::Environment;
 use crate::found::copied;
+use crate::names::Named;
 use crate::object::Object;
 use crate::prototypes::{first_property, leads_to, same_prototype};
+use crate::{Binding, Found, ObjectKind};
+use sqlite_items::Items;
 use sr_tag::{ObjK, Ref, Tag};
+use sr_text::Str;
 use sr_value::{Descriptor, Key, Property};
 use std::alloc::{AllocError, Global};
 use std::marker::Model;
@@ -18,38 +24,64 @@ use std::mem;
 /// The place of Object.prototype among the objects of a realm, from 0.
 const OBJECT_PROTOTYPE: usize = 2;
 
-/// The objects of one realm, each of a kind, in the order in which they were made; the first one has the number 1. Contracts see
-/// the tag of the realm and the objects as the definitions have them, and each method is the internal method of its name there.
+/// What one realm keeps: its objects, its environments but the global one, and the texts of its sources, each in the order in which
+/// they were made, the first one with the number 1; and of the global environment the lexical bindings and the names that `var`
+/// declared. Contracts see the tag of the realm and the store of the definitions, and each method is that of its name there. `C` is
+/// the type of the code of functions, and `B` that of the built-in functions.
 ///
-/// A reference is live where it has this tag and one of the objects has its number. No object ceases to be.
+/// A reference is live where it has this tag and one of the objects, or of the environments, has its number. Each reference that is
+/// kept is live, and none ceases to be.
 #[derive(Drop)]
-pub struct Heap<K: Drop> {
-    alloc: Global,
-    tag: Tag,
-    objects: Vec<Object<K>>,
+pub struct Heap<C: Drop, B: Drop> {
+    pub(crate) alloc: Global,
+    pub(crate) tag: Tag,
+    objects: Vec<Object<C, B>>,
+    pub(crate) environments: Vec<Environment>,
+    pub(crate) sources: Items<Str>,
+    pub(crate) lexical: Named<Binding>,
+    pub(crate) var_names: Named<()>,
 }
 
-impl<K: Drop> Model for Heap<K> {
+impl<C: Drop, B: Drop> Model for Heap<C, B> {
     ghost use Rattle.sr_heap.specs.Live.{Realm};
 
-    ghost Value = { Realm K };
+    ghost Value = { Realm C B };
 
-    ghost use Rattle.sr_heap.specs.Records.{IsSound, objects_of};
+    ghost use Rattle.std.specs.Map.{keys_of};
+    ghost use Rattle.sr_heap.specs.Records.{IsSound, realm_of};
 
-    ghost view = { λ h. record { tag = h.tag; objects = objects_of h.objects.items } };
+    ghost view = { λ h. realm_of (record {
+      tag = h.tag;
+      objects = h.objects.items;
+      environments = h.environments.items;
+      sources = h.sources;
+      lexical = h.lexical;
+      var_names = keys_of h.var_names;
+    }) };
 
-    ghost invariant = { λ h. IsSound h.tag h.objects.items };
+    ghost invariant = { λ h. IsSound (record {
+      tag = h.tag;
+      objects = h.objects.items;
+      environments = h.environments.items;
+      sources = h.sources;
+      lexical = h.lexical;
+      var_names = keys_of h.var_names;
+    }) };
 }
 
-impl<K: Drop> Heap<K> {
-    /// No objects, of a realm with this tag.
-    pub fn new(alloc: Global, tag: Tag) -> Heap<K>
-        ensures { result ≡ record { tag = tag; objects = [] } }
+impl<C: Drop, B: Drop> Heap<C, B> {
+    /// Nothing, of a realm with this tag.
+    pub fn new(alloc: Global, tag: Tag) -> Heap<C, B>
+        ensures { result ≡ record { tag = tag; store = empty_store } }
     {
         Heap {
             alloc,
             tag,
             objects: Vec::new(alloc),
+            environments: Vec::new(alloc),
+            sources: Items::new(alloc),
+            lexical: Named::new(alloc),
+            var_names: Named::new(alloc),
         }
     }
 
@@ -57,12 +89,13 @@ impl<K: Drop> Heap<K> {
     /// its own record alone; where none is found, nothing is changed.
     pub fn make_object(
         &mut self,
-        kind: K,
+        kind: ObjectKind<C, B>,
         prototype: Option<Ref<ObjK>>,
     ) -> Result<Ref<ObjK>, AllocError>
-        requires { IfSome prototype (IsLive (extent self.old)) }
-        ensures made { OnOk result (self.new ≡ record self.old { objects = spec.make_object self.old.objects kind (option_map number_of prototype) }) }
-        ensures last { IfOk result (λ r. number_of r ≡ length self.new.objects) }
+        requires kind { IsLiveKind (extent self.old) kind }
+        requires prototype { IfSome prototype (IsLive (extent self.old)) }
+        ensures made { OnOk result (self.new ≡ with_objects (spec.make_object self.old.store.objects (kind_of kind) (option_map number_of prototype)) self.old) }
+        ensures last { IfOk result (λ r. number_of r ≡ length self.new.store.objects) }
         ensures live { IfOk result (IsLive (extent self.new)) }
         ensures kept { OnOk result (KeepsLive (extent self.old) (extent self.new)) }
         ensures unchanged { OnErr result (self.new ≡ self.old) }
@@ -74,18 +107,21 @@ impl<K: Drop> Heap<K> {
     }
 
     /// The kind of an object.
-    pub fn kind(&self, at: &Ref<ObjK>) -> &K
+    pub fn kind(&self, at: &Ref<ObjK>) -> &ObjectKind<C, B>
         requires { IsLive (extent self.now) at.now }
-        ensures { spec.kind self.now.objects (number_of at.now) ≡ Some result.now }
+        ensures same { spec.kind self.now.store.objects (number_of at.now) ≡ Some (kind_of result.now) }
+        ensures live { IsLiveKind (extent self.now) result.now }
     {
         &self.objects[at.place()].kind
     }
 
     /// Gives an object another kind, and the old one back.
-    pub fn set_kind(&mut self, at: &Ref<ObjK>, kind: K) -> K
-        requires { IsLive (extent self.old) at.now }
-        ensures old { spec.kind self.old.objects (number_of at.now) ≡ Some result }
-        ensures after { self.new ≡ record self.old { objects = spec.set_kind self.old.objects (number_of at.now) kind } }
+    pub fn set_kind(&mut self, at: &Ref<ObjK>, kind: ObjectKind<C, B>) -> ObjectKind<C, B>
+        requires live { IsLive (extent self.old) at.now }
+        requires own { IsLiveKind (extent self.old) kind }
+        ensures old { spec.kind self.old.store.objects (number_of at.now) ≡ Some (kind_of result) }
+        ensures old_live { IsLiveKind (extent self.old) result }
+        ensures after { self.new ≡ with_objects (spec.set_kind self.old.store.objects (number_of at.now) (kind_of kind)) self.old }
         ensures kept { extent self.new ≡ extent self.old }
     {
         mem::replace(&mut self.objects[at.place()].kind, kind)
@@ -94,7 +130,7 @@ impl<K: Drop> Heap<K> {
     /// OrdinaryGetPrototypeOf (ECMA-262 10.1.1.1).
     pub fn prototype(&self, at: &Ref<ObjK>) -> Option<Ref<ObjK>>
         requires { IsLive (extent self.now) at.now }
-        ensures same { option_map number_of result ≡ spec.prototype self.now.objects (number_of at.now) }
+        ensures same { option_map number_of result ≡ spec.prototype self.now.store.objects (number_of at.now) }
         ensures live { IfSome result (IsLive (extent self.now)) }
     {
         self.objects[at.place()].prototype
@@ -104,8 +140,8 @@ impl<K: Drop> Heap<K> {
     pub fn set_prototype(&mut self, at: &Ref<ObjK>, to: Option<Ref<ObjK>>) -> bool
         requires live { IsLive (extent self.old) at.now }
         requires own { IfSome to (IsLive (extent self.old)) }
-        ensures answer { result ≡ spec.may_set_prototype self.old.objects (number_of at.now) (option_map number_of to) }
-        ensures after { self.new ≡ record self.old { objects = spec.set_prototype self.old.objects (number_of at.now) (option_map number_of to) } }
+        ensures answer { result ≡ spec.may_set_prototype self.old.store.objects (number_of at.now) (option_map number_of to) }
+        ensures after { self.new ≡ with_objects (spec.set_prototype self.old.store.objects (number_of at.now) (option_map number_of to)) self.old }
         ensures kept { extent self.new ≡ extent self.old }
     {
         let may = self.may_set_prototype(at, &to);
@@ -118,7 +154,7 @@ impl<K: Drop> Heap<K> {
     /// Whether an object may get this prototype.
     fn may_set_prototype(&self, at: &Ref<ObjK>, to: &Option<Ref<ObjK>>) -> bool
         requires { IsLive (extent self.now) at.now }
-        ensures { result ≡ spec.may_set_prototype self.now.objects (number_of at.now) (option_map number_of to.now) }
+        ensures { result ≡ spec.may_set_prototype self.now.store.objects (number_of at.now) (option_map number_of to.now) }
     {
         same_prototype(to, &self.prototype(at))
             || (at.place() != OBJECT_PROTOTYPE
@@ -129,7 +165,7 @@ impl<K: Drop> Heap<K> {
     /// OrdinaryIsExtensible (ECMA-262 10.1.3.1).
     pub fn extensible(&self, at: &Ref<ObjK>) -> bool
         requires { IsLive (extent self.now) at.now }
-        ensures { result ≡ spec.extensible self.now.objects (number_of at.now) }
+        ensures { result ≡ spec.extensible self.now.store.objects (number_of at.now) }
     {
         self.objects[at.place()].extensible
     }
@@ -137,7 +173,7 @@ impl<K: Drop> Heap<K> {
     /// OrdinaryPreventExtensions (ECMA-262 10.1.4.1), which always succeeds.
     pub fn prevent(&mut self, at: &Ref<ObjK>)
         requires { IsLive (extent self.old) at.now }
-        ensures after { self.new ≡ record self.old { objects = spec.prevent self.old.objects (number_of at.now) } }
+        ensures after { self.new ≡ with_objects (spec.prevent self.old.store.objects (number_of at.now)) self.old }
         ensures kept { extent self.new ≡ extent self.old }
     {
         self.objects[at.place()].extensible = false;
@@ -146,7 +182,7 @@ impl<K: Drop> Heap<K> {
     /// OrdinaryGetOwnProperty (ECMA-262 10.1.5.1). It makes no copy.
     pub fn get_own(&self, at: &Ref<ObjK>, key: &Key) -> Option<&Property>
         requires { IsLive (extent self.now) at.now }
-        ensures same { option_map property_of (option_copied result) ≡ spec.get_own self.now.objects (number_of at.now) (key_of key.now) }
+        ensures same { option_map property_of (option_copied result) ≡ spec.get_own self.now.store.objects (number_of at.now) (key_of key.now) }
         ensures live { IfSome (option_copied result) (IsLiveProperty (extent self.now)) }
     {
         self.objects[at.place()].own(key)
@@ -156,7 +192,7 @@ impl<K: Drop> Heap<K> {
     /// value, or the getter and the setter, that it finds.
     pub fn find(&self, at: &Ref<ObjK>, key: &Key) -> Result<Found, AllocError>
         requires { IsLive (extent self.now) at.now }
-        ensures same { IfOk result (λ f. found_of f ≡ spec.find self.now.objects (number_of at.now) (key_of key.now)) }
+        ensures same { IfOk result (λ f. found_of f ≡ spec.find self.now.store.objects (number_of at.now) (key_of key.now)) }
         ensures live { IfOk result (IsLiveFound (extent self.now)) }
     {
         copied(first_property(&self.objects, *at, key))
@@ -166,8 +202,8 @@ impl<K: Drop> Heap<K> {
     pub fn define(&mut self, at: &Ref<ObjK>, key: Key, d: Descriptor) -> Result<bool, AllocError>
         requires live { IsLive (extent self.old) at.now }
         requires own { IsLiveDescriptor (extent self.old) d }
-        ensures answer { IfOk result (λ b. b ≡ spec.may_define self.old.objects (number_of at.now) (key_of key) (descriptor_of d)) }
-        ensures after { OnOk result (self.new ≡ record self.old { objects = spec.define self.old.objects (number_of at.now) (key_of key) (descriptor_of d) }) }
+        ensures answer { IfOk result (λ b. b ≡ spec.may_define self.old.store.objects (number_of at.now) (key_of key) (descriptor_of d)) }
+        ensures after { OnOk result (self.new ≡ with_objects (spec.define self.old.store.objects (number_of at.now) (key_of key) (descriptor_of d)) self.old) }
         ensures kept { extent self.new ≡ extent self.old }
         ensures unchanged { OnErr result (self.new ≡ self.old) }
     {
@@ -177,8 +213,8 @@ impl<K: Drop> Heap<K> {
     /// OrdinaryDelete (ECMA-262 10.1.10.1): whether it succeeds. The other properties keep their order.
     pub fn delete(&mut self, at: &Ref<ObjK>, key: &Key) -> bool
         requires { IsLive (extent self.old) at.now }
-        ensures answer { result ≡ spec.may_delete self.old.objects (number_of at.now) (key_of key.now) }
-        ensures after { self.new ≡ record self.old { objects = spec.delete self.old.objects (number_of at.now) (key_of key.now) } }
+        ensures answer { result ≡ spec.may_delete self.old.store.objects (number_of at.now) (key_of key.now) }
+        ensures after { self.new ≡ with_objects (spec.delete self.old.store.objects (number_of at.now) (key_of key.now)) self.old }
         ensures kept { extent self.new ≡ extent self.old }
     {
         self.objects[at.place()].delete(key)
@@ -187,7 +223,7 @@ impl<K: Drop> Heap<K> {
     /// OrdinaryOwnPropertyKeys (ECMA-262 10.1.11.1), each key once more.
     pub fn own_keys(&self, at: &Ref<ObjK>) -> Result<Vec<Key>, AllocError>
         requires { IsLive (extent self.now) at.now }
-        ensures { IfOk result (λ keys. map key_of keys.items ≡ spec.own_keys self.now.objects (number_of at.now)) }
+        ensures { IfOk result (λ keys. map key_of keys.items ≡ spec.own_keys self.now.store.objects (number_of at.now)) }
     {
         self.objects[at.place()].properties.own_keys()
     }

@@ -3,9 +3,11 @@ ghost use Rattle.std.specs.Option.{option_copied};
 ghost use Rattle.std.specs.Map.{set_value};
 ghost use Rattle.sr_value.specs.Plain.{descriptor_of, key_of, number_of, property_of};
 ghost use Rattle.sr_model.specs.Keys.{same_key};
-ghost use Rattle.sr_heap.specs.Live.{Extent, IsLive, IsLiveDescriptor, IsLiveProperty};
+ghost use Rattle.sr_heap.specs.Live.{Extent, IsLive, IsLiveDescriptor, IsLiveKind, IsLiveProperty};
+ghost use Rattle.sr_heap.specs.Plain.{kind_of};
 ghost use Rattle.sr_heap.specs.Records.{IsLiveObject, deleted_object, defined_object, may_define, may_delete, object_of, own_property, with_properties, without};
 
+use crate::ObjectKind;
 use crate::descriptors::{changed_property, may_change, new_property};
 use sr_props::Table;
 use sr_tag::{ObjK, Ref};
@@ -14,18 +16,18 @@ use std::alloc::{AllocError, Global};
 
 /// An object of a kind.
 #[derive(Drop)]
-pub(crate) struct Object<K: Drop> {
-    pub kind: K,
+pub(crate) struct Object<C: Drop, B: Drop> {
+    pub kind: ObjectKind<C, B>,
     pub prototype: Option<Ref<ObjK>>,
     pub extensible: bool,
     pub properties: Table<Key, Property>,
 }
 
-impl<K: Drop> Object<K> {
+impl<C: Drop, B: Drop> Object<C, B> {
     /// An extensible object with no properties, which takes no memory.
-    pub fn new(alloc: Global, kind: K, prototype: Option<Ref<ObjK>>) -> Object<K>
-        ensures same { object_of result ≡ record { kind = kind; prototype = option_map number_of prototype; extensible = true; properties = [] } }
-        ensures live { (e : Extent) → IfSome prototype (IsLive e) → IsLiveObject e result }
+    pub fn new(alloc: Global, kind: ObjectKind<C, B>, prototype: Option<Ref<ObjK>>) -> Object<C, B>
+        ensures same { object_of result ≡ record { kind = kind_of kind; prototype = option_map number_of prototype; extensible = true; properties = [] } }
+        ensures live { (e : Extent) → IsLiveKind e kind → IfSome prototype (IsLive e) → IsLiveObject e result }
     {
         Object {
             kind,

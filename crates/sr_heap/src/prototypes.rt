@@ -10,8 +10,8 @@ use sr_tag::{ObjK, Ref};
 use sr_value::{Key, Property};
 
 /// The first property of a key, of an object, its prototype, the prototype of that, and so on.
-pub(crate) fn first_property<'a, K: Drop>(
-    objects: &'a [Object<K>],
+pub(crate) fn first_property<'a, C: Drop, B: Drop>(
+    objects: &'a [Object<C, B>],
     at: Ref<ObjK>,
     key: &Key,
 ) -> Option<&'a Property>
@@ -32,8 +32,8 @@ pub(crate) fn first_property<'a, K: Drop>(
 }
 
 /// Whether the way along the prototypes from an object comes to another one.
-pub(crate) fn leads_to<K: Drop>(
-    objects: &[Object<K>],
+pub(crate) fn leads_to<C: Drop, B: Drop>(
+    objects: &[Object<C, B>],
     from: &Option<Ref<ObjK>>,
     to: &Ref<ObjK>,
 ) -> bool

@@ -1,10 +1,11 @@
 -- Objects, and their ordinary internal methods (ECMA-262 10.1). None of them runs code. The objects of a realm are a list, in the order
 -- in which they were made, and the first one has the number 1. A method of a number that no object has finds and changes nothing.
-use Rattle.std.specs.Prelude.{ℕ, zero, suc, List, [], ◌∷◌, ◌++◌, length, slice_get, slice_set, Bool, true, false, ◌&&◌, ◌||◌, not, Option, None, Some, option_map, option_and_then, nat_eq, cond}
+use Rattle.std.specs.Prelude.{ℕ, zero, suc, List, [], ◌∷◌, ◌++◌, length, Bool, true, false, ◌&&◌, ◌||◌, not, Option, None, Some, option_map, option_and_then, nat_eq, cond}
 use Rattle.std.specs.Option.{option_or, option_map_or}
 use Rattle.std.specs.Map.{lookup, set_value, remove_entry, keys_of}
 use Rattle.sr_props.specs.OwnKeys as table
 use Rattle.sr_model.specs.Values.{Value}
+use Rattle.sr_model.specs.Numbered.{item, change}
 use Rattle.sr_model.specs.Keys.{Key, same_key, rank_of}
 use Rattle.sr_model.specs.Properties.{Property, Data, Accessor, Descriptor, is_configurable, new_property, changed_property, validates}
 
@@ -43,29 +44,19 @@ abbrev pub object_prototype : ℕ
 object_prototype = 3
 
 module _ {K : Type 0} where
-  -- the n-th object, from 1
-  abbrev pub object_at : List (Object K) → ℕ → Option (Object K)
-  object_at os zero = None
-  object_at os (suc n) = slice_get os n
-
-  -- the objects after a change of the n-th
-  abbrev pub change : List (Object K) → ℕ → (Object K → Object K) → List (Object K)
-  change os zero f = os
-  change os (suc n) f = option_map_or (λ o. slice_set os n (f o)) (slice_get os n) os
-
   abbrev pub kind : List (Object K) → ℕ → Option K
-  kind os n = option_map (λ o. o.kind) (object_at os n)
+  kind os n = option_map (λ o. o.kind) (item os n)
 
   abbrev pub set_kind : List (Object K) → ℕ → K → List (Object K)
   set_kind os n k = change os n (λ o. record o { kind = k })
 
   -- 10.1.1.1 OrdinaryGetPrototypeOf
   abbrev pub prototype : List (Object K) → ℕ → Option ℕ
-  prototype os n = option_and_then (λ o. o.prototype) (object_at os n)
+  prototype os n = option_and_then (λ o. o.prototype) (item os n)
 
   -- 10.1.3.1 OrdinaryIsExtensible
   abbrev pub extensible : List (Object K) → ℕ → Bool
-  extensible os n = option_map_or (λ o. o.extensible) (object_at os n) false
+  extensible os n = option_map_or (λ o. o.extensible) (item os n) false
 
   -- 10.1.4.1 OrdinaryPreventExtensions, which always succeeds
   abbrev pub prevent : List (Object K) → ℕ → List (Object K)
@@ -73,7 +64,7 @@ module _ {K : Type 0} where
 
   -- 10.1.5.1 OrdinaryGetOwnProperty
   abbrev pub get_own : List (Object K) → ℕ → Key → Option Property
-  get_own os n k = option_and_then (λ o. lookup (same_key k) o.properties) (object_at os n)
+  get_own os n k = option_and_then (λ o. lookup (same_key k) o.properties) (item os n)
 
   -- the first property of this key, of an object, its prototype, the prototype of that, and so on. No object comes twice along the way,
   -- so no way is longer than the list of all objects
@@ -108,7 +99,7 @@ module _ {K : Type 0} where
 
   -- 10.1.11.1 OrdinaryOwnPropertyKeys
   abbrev pub own_keys : List (Object K) → ℕ → List Key
-  own_keys os n = option_map_or (λ o. table.own_keys rank_of (keys_of o.properties)) (object_at os n) []
+  own_keys os n = option_map_or (λ o. table.own_keys rank_of (keys_of o.properties)) (item os n) []
 
   -- 10.1.2.1, step 7: whether the way along the prototypes from an object comes to the n-th
   abbrev pub leads_to : ℕ → List (Object K) → Option ℕ → ℕ → Bool

@@ -1,8 +1,9 @@
 use Rattle.std.proofs.Common.{ap, sym, ◌∙◌, map}
 use Rattle.sr_value.specs.contracts.value.KeyPartialEq.TheImpl as key_eq
 use Rattle.sr_heap.specs.Records.{object_of, pair_of, with_properties}
+use Rattle.sr_heap.specs.Live.{IsLiveProperty}
 use Rattle.sr_heap.proofs.Objects.{set_pairs, present}
-use Rattle.sr_heap.proofs.Lives.{set_live}
+use Rattle.sr_heap.proofs.Lives.{set_have}
 use Rattle.sr_heap.proofs.object.Object.replace.Goals as goal
 
 pub set-requires : goal.set-requires
@@ -14,6 +15,7 @@ returns-clause-after g c =
 
 pub returns-clause-live : goal.returns-clause-live
 returns-clause-live g c = λ e new live. record {
+  kind = live.kind;
   prototype = live.prototype;
-  properties = rw c.set.ensures.after (set_live e (key_eq.ghosts.eq c.args.key.now) c.args.self.now.properties c.args.property new live.properties);
+  properties = rw c.set.ensures.after (set_have (IsLiveProperty e) (key_eq.ghosts.eq c.args.key.now) c.args.self.now.properties c.args.property new live.properties);
 }

@@ -1,0 +1,63 @@
+-- Environment records (ECMA-262 9.1). Those of a realm are a list, in the order in which they were made, and the first one has the number
+-- 1. The number 0 is that of the global environment, whose parts are kept apart. A method of a number that no environment of the list has
+-- finds and changes nothing.
+use Rattle.std.specs.Prelude.{ℕ, List, [], ◌∷◌, ◌++◌, Option, option_and_then, cond}
+use Rattle.std.specs.Option.{option_map_or}
+use Rattle.std.specs.Map.{lookup, set_value}
+use Rattle.sr_model.specs.Values.{Text, same, member, Value}
+use Rattle.sr_model.specs.Numbered.{item, change}
+
+-- 9.1.1.1: the binding of a name has no value yet, or a value that may be changed, or one that stays
+pub data Binding : Type 0 where
+  Uninitialized : Binding
+  Mutable : Value → Binding
+  Constant : Value → Binding
+
+-- names with their bindings, in the order in which they were made
+abbrev pub Bindings : Type 0
+Bindings = List (Text × Binding)
+
+-- the binding of a name, if it has one (9.1.1.1.1 HasBinding tells whether it has)
+abbrev pub bound : Text → Bindings → Option Binding
+bound x bs = lookup (same x) bs
+
+-- 9.1.1.1.2 CreateMutableBinding and 9.1.1.1.3 CreateImmutableBinding: a new name comes last, and has no value yet
+abbrev pub created : Text → Bindings → Bindings
+created x bs = bs ++ (x, Uninitialized) ∷ []
+
+-- 9.1.1.1.4 InitializeBinding and 9.1.1.1.5 SetMutableBinding: another binding takes the place of the one that is there
+abbrev pub rebound : Text → Binding → Bindings → Bindings
+rebound x b bs = set_value (same x) bs b
+
+-- 9.1.1.1 a declarative environment record, and 9.1.1.3 that of a function, which may have a this value of its own; and the number of the
+-- environment around it
+pub record Environment : Type 0 where
+  pub bindings : Bindings
+  pub this : Option Value
+  pub outer : ℕ
+
+-- 9.1.2.2 NewDeclarativeEnvironment and 9.1.2.4 NewFunctionEnvironment: the new one comes last, and has no bindings
+abbrev pub make_environment : List Environment → Option Value → ℕ → List Environment
+make_environment es this outer = es ++ record { bindings = []; this = this; outer = outer } ∷ []
+
+-- the environment around one. Around the global environment there is none, and no number but 0 leads out of the list
+abbrev pub outer : List Environment → ℕ → ℕ
+outer es n = option_map_or (λ e. e.outer) (item es n) 0
+
+-- 9.1.1.3.4 GetThisBinding, of an environment that has one
+abbrev pub this : List Environment → ℕ → Option Value
+this es n = option_and_then (λ e. e.this) (item es n)
+
+-- the binding of a name there, and the environments after a name is created there, and after its binding is another one
+abbrev pub binding : List Environment → ℕ → Text → Option Binding
+binding es n x = option_and_then (λ e. bound x e.bindings) (item es n)
+
+abbrev pub create_binding : List Environment → ℕ → Text → List Environment
+create_binding es n x = change es n (λ e. record e { bindings = created x e.bindings })
+
+abbrev pub set_binding : List Environment → ℕ → Text → Binding → List Environment
+set_binding es n x b = change es n (λ e. record e { bindings = rebound x b e.bindings })
+
+-- 9.1.1.4.17 CreateGlobalVarBinding, step 6: a name that `var` declares is noted once
+abbrev pub with_var_name : Text → List Text → List Text
+with_var_name x xs = cond (member x xs) xs (xs ++ x ∷ [])
