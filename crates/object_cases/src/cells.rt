@@ -16,12 +16,12 @@ fn next_cell(cells: &str) -> (&str, &str) {
     }
 }
 
-fn text(alloc: Global, cell: &str) -> Result<Str> {
+pub fn text(alloc: Global, cell: &str) -> Result<Str> {
     Ok(Str::of_units(alloc, &units_of(alloc, cell)?)?)
 }
 
 /// A value: `undefined`, `NaN`, an integer, a string, or `@` and the string of a registered symbol.
-fn value(alloc: Global, cell: &str) -> Result<Value>
+pub fn value(alloc: Global, cell: &str) -> Result<Value>
     ensures { IfOk result (λ v. (e : Extent) → IsLiveValue e v) }
 {
     if let Some(name) = cell.strip_prefix('@') {
@@ -93,7 +93,7 @@ fn shown_flag(flag: bool) -> &'static str {
 }
 
 /// A value as a cell writes it.
-fn shown(alloc: Global, value: &Value) -> Result<String> {
+pub fn shown(alloc: Global, value: &Value) -> Result<String> {
     match value {
         Value::Undefined => Ok(String::from_str(alloc, "undefined")?),
         Value::Num(number) => match number.get() {

@@ -3,17 +3,17 @@ ghost use Rattle.sr_heap.specs.Live.{IsLive, extent};
 
 use crate::cells::{descriptor, key, shown_key, shown_property};
 use anyhow::{Result, bail};
-use sr_heap::Heap;
+use sr_heap::{Heap, ObjectKind};
 use sr_tag::{ObjK, Ref, Tag};
 use sr_value::Key;
 use std::alloc::Global;
 
-/// The kind of all objects here.
+/// The code of functions here, and the built-in functions. There are none of either.
 #[derive(Drop)]
 pub struct Plain;
 
 /// A realm with no objects.
-fn empty(alloc: Global) -> Heap<Plain> {
+pub fn empty(alloc: Global) -> Heap<Plain, Plain> {
     Heap::new(alloc, Tag { number: 0 })
 }
 
@@ -21,7 +21,7 @@ fn empty(alloc: Global) -> Heap<Plain> {
 /// cells back.
 fn prepare<'a>(
     alloc: Global,
-    heap: &mut Heap<Plain>,
+    heap: &mut Heap<Plain, Plain>,
     at: &Ref<ObjK>,
     key: Key,
     cells: &'a str,
@@ -47,7 +47,7 @@ fn prepare<'a>(
 /// and the object is extensible or not, and then the descriptor.
 pub fn defined(alloc: Global, case: &str) -> Result<String> {
     let mut heap = empty(alloc);
-    let at = heap.make_object(Plain, None)?;
+    let at = heap.make_object(ObjectKind::Ordinary, None)?;
     let name = key(alloc, "\"p\"")?;
     let rest = prepare(alloc, &mut heap, &at, name.clone()?, case)?;
     let (d, _) = descriptor(alloc, rest)?;
@@ -59,7 +59,7 @@ pub fn defined(alloc: Global, case: &str) -> Result<String> {
 /// Whether a property is deleted, and the property after.
 pub fn deleted(alloc: Global, case: &str) -> Result<String> {
     let mut heap = empty(alloc);
-    let at = heap.make_object(Plain, None)?;
+    let at = heap.make_object(ObjectKind::Ordinary, None)?;
     let name = key(alloc, "\"p\"")?;
     prepare(alloc, &mut heap, &at, name.clone()?, case)?;
     let done = heap.delete(&at, &name);
@@ -68,7 +68,7 @@ pub fn deleted(alloc: Global, case: &str) -> Result<String> {
 }
 
 /// Adds a property of the key in a cell, or deletes that of the key behind a `-`.
-fn change(alloc: Global, heap: &mut Heap<Plain>, at: &Ref<ObjK>, cell: &str) -> Result<()>
+fn change(alloc: Global, heap: &mut Heap<Plain, Plain>, at: &Ref<ObjK>, cell: &str) -> Result<()>
     requires { IsLive (extent heap.old) at.now }
     ensures { extent heap.new ≡ extent heap.old }
 {
@@ -84,7 +84,7 @@ fn change(alloc: Global, heap: &mut Heap<Plain>, at: &Ref<ObjK>, cell: &str) -> 
 /// The own keys after properties are added and deleted, in the order of the cells, one space between two.
 pub fn listed(alloc: Global, case: &str) -> Result<String> {
     let mut heap = empty(alloc);
-    let at = heap.make_object(Plain, None)?;
+    let at = heap.make_object(ObjectKind::Ordinary, None)?;
     for cell in case.split_whitespace() {
         change(alloc, &mut heap, &at, cell)?;
     }
