@@ -31,7 +31,6 @@ const OBJECT_PROTOTYPE: usize = 2;
 ///
 /// A reference is live where it has this tag and one of the objects, or of the environments, has its number. Each reference that is
 /// kept is live, and none ceases to be.
-#[derive(Drop)]
 pub struct Heap<C: Drop, B: Drop> {
     pub(crate) alloc: Global,
     pub(crate) tag: Tag,
@@ -67,6 +66,26 @@ impl<C: Drop, B: Drop> Model for Heap<C, B> {
       lexical = h.lexical;
       var_names = keys_of h.var_names;
     }) };
+}
+
+// Written by hand, so that the crates above prove nothing of how objects and environments are dropped.
+impl<C: Drop, B: Drop> Drop for Heap<C, B> {
+    fn drop(self) {
+        let Heap {
+            alloc: _,
+            tag: _,
+            objects,
+            environments,
+            sources,
+            lexical,
+            var_names,
+        } = self;
+        drop(objects);
+        drop(environments);
+        drop(sources);
+        drop(lexical);
+        drop(var_names);
+    }
 }
 
 impl<C: Drop, B: Drop> Heap<C, B> {
