@@ -2,10 +2,10 @@
 
 Each row is worked out by the steps of ECMA-262 10.1.2.1 and 10.4.7.2 as they are written there, over objects that are counted from
 1 in the order in which they are made. The first cell has the prototype of each, with a '!' behind it where the object is not
-extensible; the second one has the changes. The third object is Object.prototype.
+extensible; the second one has the changes. The second object is Object.prototype.
 """
 
-OBJECT_PROTOTYPE = 3
+OBJECT_PROTOTYPE = 2
 
 ROWS = [
     # the same prototype again, and none
@@ -46,16 +46,16 @@ ROWS = [
     ("null 1 null null", "4=2 1=3 2=3"),
     ("null null null 3 4 3", "6=5"),
     # Object.prototype
-    ("null null null", "3=null"),
-    ("null null null", "3=3"),
-    ("null null null", "3=1"),
-    ("null null null 3", "3=4"),
-    ("null null null!", "3=null"),
-    ("null null null!", "3=3"),
-    ("null null null!", "3=1"),
-    ("null null 1", "3=1"),
-    ("null null 1", "3=null 3=2"),
-    ("null null null 1", "1=3 4=3 2=4"),
+    ("null null null", "2=null"),
+    ("null null null", "2=2"),
+    ("null null null", "2=1"),
+    ("null null null 2", "2=4"),
+    ("null null! null", "2=null"),
+    ("null null! null", "2=2"),
+    ("null null! null", "2=1"),
+    ("null 1", "2=1"),
+    ("null 1 null", "2=null 2=3"),
+    ("null null null 1", "1=2 4=2 3=4"),
 ]
 
 
@@ -110,7 +110,7 @@ def answer(words, changes):
 
 def main():
     print("# the prototypes of objects, with a ! where one is not extensible; changes OBJECT=PROTOTYPE; whether each succeeds, and the")
-    print("# prototype after; the third object is Object.prototype")
+    print("# prototype after; the second object is Object.prototype")
     for words, changes in ROWS:
         print(f"{words}  {changes}  {' '.join(answer(words, changes))}")
 

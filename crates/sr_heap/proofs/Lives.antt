@@ -28,13 +28,7 @@ grown e f tag objects environments = record {
 
 module _ (e f : Extent) (kept : KeepsLive e f) where
   pub value_kept : (v : Value) → IsLiveValue e v → IsLiveValue f v
-  value_kept value.Undefined live = tt
-  value_kept value.Null live = tt
-  value_kept (value.Bool b) live = tt
-  value_kept (value.Num n) live = tt
-  value_kept (value.Str text) live = tt
-  value_kept (value.Sym s) live = tt
-  value_kept (value.Obj r) live = kept.objects r live
+  value_kept v live = record { object = λ r is. kept.objects r (live.object r is) }
 
   values_kept : (vs : List Value) → AllByRecursion (IsLiveValue e) vs → AllByRecursion (IsLiveValue f) vs
   values_kept [] live = tt
@@ -78,6 +72,7 @@ module _ (e f : Extent) (kept : KeepsLive e f) where
   binding_kept binding.Uninitialized live = tt
   binding_kept (binding.Mutable v) live = value_kept v live
   binding_kept (binding.Constant v) live = value_kept v live
+  binding_kept (binding.OwnName v) live = value_kept v live
 
   pub bindings_kept : (bs : List (List ℕ × Binding)) → AreLiveBindings e bs → AreLiveBindings f bs
   bindings_kept [] live = tt

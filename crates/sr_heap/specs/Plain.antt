@@ -27,6 +27,7 @@ abbrev pub binding_of : Binding → environments.Binding
 binding_of binding.Uninitialized = environments.Uninitialized
 binding_of (binding.Mutable v) = environments.Mutable (value_of v)
 binding_of (binding.Constant v) = environments.Constant (value_of v)
+binding_of (binding.OwnName v) = environments.OwnName (value_of v)
 
 abbrev pub bindings_of : List (List ℕ × Binding) → environments.Bindings
 bindings_of bs = map (λ b. (b.0, binding_of b.1)) bs

@@ -18,6 +18,9 @@ pub enum Binding {
     Mutable(Value),
     /// A value that stays.
     Constant(Value),
+    /// The value of the name of a function expression in the environment around its own body, which stays, and which only strict code
+    /// may not write (ECMA-262 15.2.5).
+    OwnName(Value),
 }
 
 /// The binding of a name, if it has one.

@@ -1,10 +1,10 @@
-ghost use Rattle.std.specs.Prelude.{◌≡◌, [], map, length, IfOk, IfSome, OnOk, OnErr, Some, option_map};
+ghost use Rattle.std.specs.Prelude.{◌≡◌, ◌<◌, [], suc, map, length, IfOk, IfSome, OnOk, OnErr, Some, option_map};
 ghost use Rattle.std.specs.Option.{option_copied};
-ghost use Rattle.sr_value.specs.Plain.{descriptor_of, key_of, number_of, property_of};
+ghost use Rattle.sr_value.specs.Plain.{descriptor_of, key_of, number_of, property_of, value_of};
 ghost use Rattle.sr_model.specs.Objects as spec;
 ghost use Rattle.sr_model.specs.Stores.{empty_store};
-ghost use Rattle.sr_heap.specs.Found.{found_of};
-ghost use Rattle.sr_heap.specs.Live.{IsLive, IsLiveDescriptor, IsLiveFound, IsLiveKind, IsLiveProperty, KeepsLive, extent, with_objects};
+ghost use Rattle.sr_heap.specs.Found.{Stops, found_of, setting_of};
+ghost use Rattle.sr_heap.specs.Live.{IsLive, IsLiveDescriptor, IsLiveFound, IsLiveKind, IsLiveProperty, IsLiveSetting, IsLiveValue, KeepsLive, extent, with_objects};
 ghost use Rattle.sr_heap.specs.Plain.{kind_of};
 
 use crate::environments::Environment;
@@ -12,17 +12,18 @@ use crate::found::copied;
 use crate::names::Named;
 use crate::object::Object;
 use crate::prototypes::{first_property, leads_to, same_prototype};
-use crate::{Binding, Found, ObjectKind};
+use crate::settings::{assignment, settled, stopped};
+use crate::{Binding, Found, ObjectKind, Setting};
 use sqlite_items::Items;
 use sr_tag::{ObjK, Ref, Tag};
 use sr_text::Str;
-use sr_value::{Descriptor, Key, Property};
+use sr_value::{Descriptor, Key, Property, Value};
 use std::alloc::{AllocError, Global};
 use std::marker::Model;
 use std::mem;
 
 /// The place of Object.prototype among the objects of a realm, from 0.
-const OBJECT_PROTOTYPE: usize = 2;
+const OBJECT_PROTOTYPE: usize = 1;
 
 /// What one realm keeps: its objects, its environments but the global one, and the texts of its sources, each in the order in which
 /// they were made, the first one with the number 1; and of the global environment the lexical bindings and the names that `var`
@@ -181,6 +182,15 @@ impl<C: Drop, B: Drop> Heap<C, B> {
                 && !leads_to(&self.objects, to, at))
     }
 
+    /// The object at a place, counted from 0.
+    pub fn nth(&self, place: usize) -> Ref<ObjK>
+        requires { place < length self.now.store.objects }
+        ensures number { number_of result ≡ suc place }
+        ensures live { IsLive (extent self.now) result }
+    {
+        Ref::at(self.tag, place)
+    }
+
     /// OrdinaryIsExtensible (ECMA-262 10.1.3.1).
     pub fn extensible(&self, at: &Ref<ObjK>) -> bool
         requires { IsLive (extent self.now) at.now }
@@ -227,6 +237,35 @@ impl<C: Drop, B: Drop> Heap<C, B> {
         ensures unchanged { OnErr result (self.new ≡ self.old) }
     {
         self.objects[at.place()].define(key, d)
+    }
+
+    /// OrdinarySet (ECMA-262 10.1.9.1), with the object itself as the receiver: what comes of it. Where no memory is found, nothing is
+    /// changed.
+    pub fn set(&mut self, at: &Ref<ObjK>, key: Key, value: Value) -> Result<Setting, AllocError>
+        requires live { IsLive (extent self.old) at.now }
+        requires own { IsLiveValue (extent self.old) value }
+        ensures answer { IfOk result (λ s. setting_of s ≡ spec.set_answer self.old.store.objects (number_of at.now) (key_of key) (value_of value)) }
+        ensures after { OnOk result (self.new ≡ with_objects (spec.set self.old.store.objects (number_of at.now) (key_of key) (value_of value)) self.old) }
+        ensures kept { extent self.new ≡ extent self.old }
+        ensures setter { IfOk result (IsLiveSetting (extent self.new)) }
+        ensures unchanged { OnErr result (self.new ≡ self.old) }
+    {
+        match self.stop(at, &key)? {
+            Some(stop) => Ok(stop),
+            None => {
+                let there = self.get_own(at, &key).is_some();
+                Ok(settled(self.define(at, key, assignment(value, there))?))
+            }
+        }
+    }
+
+    /// What stops a write of a key.
+    fn stop(&self, at: &Ref<ObjK>, key: &Key) -> Result<Option<Setting>, AllocError>
+        requires { IsLive (extent self.now) at.now }
+        ensures same { IfOk result (Stops (spec.met self.now.store.objects (number_of at.now) (key_of key.now))) }
+        ensures live { IfOk result (λ s. IfSome s (IsLiveSetting (extent self.now))) }
+    {
+        stopped(first_property(&self.objects, *at, key))
     }
 
     /// OrdinaryDelete (ECMA-262 10.1.10.1): whether it succeeds. The other properties keep their order.

@@ -20,6 +20,8 @@ mod names;
 mod object;
 /// Ways along prototypes.
 mod prototypes;
+/// What comes of a write of a property.
+mod settings;
 /// The calls of the heap on environments, the global environment and sources.
 mod scopes;
 
@@ -27,3 +29,4 @@ pub use bindings::Binding;
 pub use found::Found;
 pub use heap::Heap;
 pub use kinds::{Bound, Closure, Native, ObjectKind};
+pub use settings::Setting;

@@ -9,7 +9,7 @@ ghost use Rattle.sr_heap.specs.Plain.{binding_of, scope_of};
 
 use crate::Binding;
 use crate::bindings::{bound, create, rebind};
-use crate::environments::Environment;
+use crate::environments::{Environment, holder};
 use crate::heap::Heap;
 use sr_tag::{EnvK, Ref};
 use sr_text::Str;
@@ -54,6 +54,16 @@ impl<C: Drop, B: Drop> Heap<C, B> {
         ensures live { IfSome (option_copied result) (IsLiveValue (extent self.now)) }
     {
         self.environments[at.place()].this.as_ref()
+    }
+
+    /// The environment in which a name is bound, from one outward, where none is the global one (ECMA-262 9.1.2.1
+    /// GetIdentifierReference).
+    pub fn holder(&self, from: Option<Ref<EnvK>>, name: &Str) -> Option<Ref<EnvK>>
+        requires { IfSome from (IsLiveScope (extent self.now)) }
+        ensures same { scope_of result ≡ spec.holder self.now.store.environments (scope_of from) name.now }
+        ensures live { IfSome result (IsLiveScope (extent self.now)) }
+    {
+        holder(&self.environments, from, name)
     }
 
     /// The binding of a name in an environment, if it has one there (ECMA-262 9.1.1.1.1 HasBinding, 9.1.1.1.6 GetBindingValue).
@@ -137,9 +147,10 @@ impl<C: Drop, B: Drop> Heap<C, B> {
         }
     }
 
-    /// Adds the text of a source, behind the others.
+    /// Adds the text of a source, behind the others. Where no memory is found, nothing is changed.
     pub fn add_source(&mut self, text: Str) -> Result<(), AllocError>
-        ensures { OnOk result (self.new ≡ with_sources (self.old.store.sources ++ text ∷ []) self.old) }
+        ensures added { OnOk result (self.new ≡ with_sources (self.old.store.sources ++ text ∷ []) self.old) }
+        ensures unchanged { OnErr result (self.new ≡ self.old) }
     {
         self.sources.push(text)
     }

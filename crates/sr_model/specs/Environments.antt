@@ -1,17 +1,19 @@
 -- Environment records (ECMA-262 9.1). Those of a realm are a list, in the order in which they were made, and the first one has the number
 -- 1. The number 0 is that of the global environment, whose parts are kept apart. A method of a number that no environment of the list has
 -- finds and changes nothing.
-use Rattle.std.specs.Prelude.{ℕ, List, [], ◌∷◌, ◌++◌, Option, option_and_then, cond}
+use Rattle.std.specs.Prelude.{ℕ, zero, suc, List, [], ◌∷◌, ◌++◌, length, Option, is_some, option_and_then, cond}
 use Rattle.std.specs.Option.{option_map_or}
 use Rattle.std.specs.Map.{lookup, set_value}
 use Rattle.sr_model.specs.Values.{Text, same, member, Value}
 use Rattle.sr_model.specs.Numbered.{item, change}
 
--- 9.1.1.1: the binding of a name has no value yet, or a value that may be changed, or one that stays
+-- 9.1.1.1: the binding of a name has no value yet, or a value that may be changed, or one that stays; or it is the name of a function
+-- expression in the environment around its own body (15.2.5), which stays, and which only strict code may not write
 pub data Binding : Type 0 where
   Uninitialized : Binding
   Mutable : Value → Binding
   Constant : Value → Binding
+  OwnName : Value → Binding
 
 -- names with their bindings, in the order in which they were made
 abbrev pub Bindings : Type 0
@@ -57,6 +59,15 @@ create_binding es n x = change es n (λ e. record e { bindings = created x e.bin
 
 abbrev pub set_binding : List Environment → ℕ → Text → Binding → List Environment
 set_binding es n x b = change es n (λ e. record e { bindings = rebound x b e.bindings })
+
+-- 9.1.2.1 GetIdentifierReference: the environment in which a name is bound, from one outward; and the number 0, that of the global
+-- environment, where none of the list has it. No environment comes twice on the way, so no way is longer than the list
+abbrev pub holder_along : ℕ → List Environment → ℕ → Text → ℕ
+holder_along zero es n x = 0
+holder_along (suc d) es n x = cond (is_some (binding es n x)) n (holder_along d es (outer es n) x)
+
+abbrev pub holder : List Environment → ℕ → Text → ℕ
+holder es n x = holder_along (length es) es n x
 
 -- 9.1.1.4.17 CreateGlobalVarBinding, step 6: a name that `var` declares is noted once
 abbrev pub with_var_name : Text → List Text → List Text

@@ -4,7 +4,7 @@ use Rattle.std.specs.Prelude.{ℕ, zero, suc, List, [], ◌∷◌, ◌++◌, len
 use Rattle.std.specs.Option.{option_or, option_map_or}
 use Rattle.std.specs.Map.{lookup, set_value, remove_entry, keys_of}
 use Rattle.sr_props.specs.OwnKeys as table
-use Rattle.sr_model.specs.Values.{Value}
+use Rattle.sr_model.specs.Values.{Value, Simple, Undefined}
 use Rattle.sr_model.specs.Numbered.{item, change}
 use Rattle.sr_model.specs.Keys.{Key, same_key, rank_of}
 use Rattle.sr_model.specs.Properties.{Property, Data, Accessor, Descriptor, is_configurable, new_property, changed_property, validates}
@@ -32,6 +32,39 @@ abbrev pub defined : Key → Descriptor → Option Property → List (Key × Pro
 defined k d None ps = ps ++ (k, new_property d) ∷ []
 defined k d (Some p) ps = set_value (same_key k) ps (changed_property d p)
 
+-- what a write comes to: the property has the value now; it is refused; or a setter is to be called
+pub data Setting : Type 0 where
+  Assigned : Setting
+  Refused : Setting
+  CallsSetter : Value → Setting
+
+-- the descriptor by which a value is written: where the object has the property already, the value alone (10.1.9.2, step 2.d), and else
+-- that of a property that assignment makes (2.e, 7.3.5 CreateDataProperty)
+abbrev pub value_alone : Value → Descriptor
+value_alone v = record { value = Some v; writable = None; get = None; set = None; enumerable = None; configurable = None }
+
+abbrev pub plain_property : Value → Descriptor
+plain_property v = record { value = Some v; writable = Some true; get = None; set = None; enumerable = Some true; configurable = Some true }
+
+abbrev pub assignment : Value → Option Property → Descriptor
+assignment v None = plain_property v
+assignment v (Some p) = value_alone v
+
+-- whether a property lets a write pass to the object itself, and what else comes of it
+abbrev pub passes : Option Property → Bool
+passes None = true
+passes (Some (Data v w e c)) = w
+passes (Some (Accessor g s e c)) = false
+
+abbrev pub stopped : Option Property → Setting
+stopped (Some (Accessor g (Simple Undefined) e c)) = Refused
+stopped (Some (Accessor g s e c)) = CallsSetter s
+stopped p = Refused
+
+abbrev pub settled : Bool → Setting
+settled true = Assigned
+settled false = Refused
+
 -- two prototypes are the same where both are none, or one object
 abbrev pub same_prototype : Option ℕ → Option ℕ → Bool
 same_prototype None None = true
@@ -39,9 +72,9 @@ same_prototype None (Some n) = false
 same_prototype (Some m) None = false
 same_prototype (Some m) (Some n) = nat_eq m n
 
--- the number of Object.prototype, which is the third object that a realm makes. Its prototype is immutable (10.4.7)
+-- the number of Object.prototype, which is the second object that a realm makes. Its prototype is immutable (10.4.7)
 abbrev pub object_prototype : ℕ
-object_prototype = 3
+object_prototype = 2
 
 module _ {K : Type 0} where
   abbrev pub kind : List (Object K) → ℕ → Option K
@@ -86,6 +119,18 @@ module _ {K : Type 0} where
       cond (may_define os n k d)
       (change os n (λ o. record o { properties = defined k d (get_own os n k) o.properties }))
       os
+
+  -- 10.1.9.1 OrdinarySet, with the object itself as the receiver: the first property along the prototypes may stop the write; else the
+  -- object's own one is defined. What comes of it, and the objects after it
+  abbrev pub met : List (Object K) → ℕ → Key → Option Property
+  met os n k = property_along (length os) os (Some n) k
+
+  abbrev pub set_answer : List (Object K) → ℕ → Key → Value → Setting
+  set_answer os n k v =
+      cond (passes (met os n k)) (settled (may_define os n k (assignment v (get_own os n k)))) (stopped (met os n k))
+
+  abbrev pub set : List (Object K) → ℕ → Key → Value → List (Object K)
+  set os n k v = cond (passes (met os n k)) (define os n k (assignment v (get_own os n k))) os
 
   -- 10.1.10.1 OrdinaryDelete: whether it succeeds, and the objects after it
   abbrev pub may_delete : List (Object K) → ℕ → Key → Bool
