@@ -1,0 +1,4 @@
+pub mod Plain
+pub mod Live
+pub mod Errors
+pub mod Reports
