@@ -105,7 +105,8 @@ fn set(heap: &mut Heap<Plain, Plain>, at: &Option<Ref<EnvK>>, name: &Str, bindin
     true
 }
 
-/// A binding as a cell writes it: `none`, `empty`, or its value behind `=`, or behind `:` where it stays.
+/// A binding as a cell writes it: `none`, `empty`, or its value behind `=`, behind `:` where it stays, or behind `~`
+/// where it is the own name of a function expression.
 fn shown_binding(alloc: Global, binding: Option<&Binding>) -> Result<String> {
     match binding {
         None => Ok(String::from_str(alloc, "none")?),
@@ -117,6 +118,10 @@ fn shown_binding(alloc: Global, binding: Option<&Binding>) -> Result<String> {
         Some(Binding::Constant(value)) => {
             let value = shown(alloc, value)?;
             Ok(format!(in alloc; ":{value}")?)
+        }
+        Some(Binding::OwnName(value)) => {
+            let value = shown(alloc, value)?;
+            Ok(format!(in alloc; "~{value}")?)
         }
     }
 }

@@ -3,6 +3,8 @@ use sr_ast::{Reading, Refused, SourceCode};
 use sr_command::shadow_run;
 use sr_machine::{Advance, Live};
 use sr_outside::{MapLoader, SureSink, VecSink};
+use sr_state::Source;
+use sr_text::Str;
 use std::alloc::{AllocError, Global};
 use std::test::Fail;
 
@@ -78,9 +80,12 @@ fn end_of(live: &mut Live, out: &mut SureSink) -> Advance {
 /// The run of a text that breaks a rule of the language at a place.
 fn run_of_broken(alloc: Global, at: usize) -> Result<Live, Fail> {
     let mut live = Live::open(alloc, MANY)?;
-    live.give_source(SourceCode {
-        reading: Reading::Refused(Refused::Syntax(at)),
-        units: at,
+    live.give_source(Source {
+        text: Str::of_units(alloc, &[])?,
+        code: SourceCode {
+            reading: Reading::Refused(Refused::Syntax(at)),
+            units: at,
+        },
     });
     Ok(live)
 }

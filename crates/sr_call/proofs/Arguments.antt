@@ -9,7 +9,9 @@ use Rattle.sr_model.specs.Scripts.{Pay}
 use Rattle.sr_conv.specs.Conversions.{to_text}
 use Rattle.sr_conv.specs.Plain.{value_of}
 use Rattle.sr_state.specs.Step.{plain}
-use Rattle.sr_state.specs.Trees.{computed, text_in, throw_error}
+use Rattle.sr_realm.specs.Errors.{type_error}
+use Rattle.sr_state.specs.Errors.{throw_new}
+use Rattle.sr_state.specs.Trees.{computed, text_in}
 use Rattle.sr_call.specs.Parts.{line_of}
 use Rattle.sr_call.specs.Rows.{print_joined, print_rest}
 use Rattle.sr_call.specs.Stages.{texts_in, rest_at, after_turn, turn, turn_at}
@@ -30,7 +32,7 @@ drop_past (w ∷ vs) (suc n) e = drop_past vs n e
 pub turn_there : (vs : List Value) (n : ℕ) (v : Value) → Some v ≡ slice_get vs n → turn_at n (plain vs) ≡ computed (to_text (value_of v)) (after_turn n (plain vs))
 turn_there vs n v e = ap (λ x. turn x (texts_in (take n (plain vs)))) (drop_there vs n v e)
 
-pub turn_past : (vs : List Value) (n : ℕ) → None ≡ slice_get vs n → turn_at n (plain vs) ≡ throw_error
+pub turn_past : (vs : List Value) (n : ℕ) → None ≡ slice_get vs n → turn_at n (plain vs) ≡ throw_new type_error
 turn_past vs n e = ap (λ x. turn x (texts_in (take n (plain vs)))) (drop_past vs n e)
 
 rest_pays : (vs : List model.Value) (texts : List model.Text) → 0 < length vs → print_rest vs texts ≡ Pay 0 (turn vs texts)

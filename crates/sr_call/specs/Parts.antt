@@ -11,10 +11,12 @@ use Rattle.sr_state.specs.declared.ends.Next.TheVariants as next
 use Rattle.sr_state.specs.declared.ends.StopName.TheVariants as stop
 use Rattle.sr_state.specs.Ends.{HaltsBy}
 use Rattle.sr_state.specs.Held.{Held, staged, listing}
-use Rattle.sr_state.specs.Parts.{EndsWith, Makes, no_error, emptied}
+use Rattle.sr_realm.specs.Errors.{type_error}
+use Rattle.sr_state.specs.Errors.{throw_new}
+use Rattle.sr_state.specs.Parts.{Makes, Throws, emptied}
 use Rattle.sr_state.specs.Step.{plain}
 use Rattle.sr_state.specs.Work.{Steps}
-use Rattle.sr_state.specs.Trees.{text_limit, throw_error}
+use Rattle.sr_state.specs.Trees.{text_limit}
 use Rattle.sr_call.specs.Rows.{joined, print_joined}
 use Rattle.sr_call.specs.Stages.{texts_in, rest_at, turn_at}
 
@@ -54,7 +56,7 @@ abbrev pub Turns : ℕ → Held → Next → Held → Type 0
 Turns at old n new =
     (let f = old.top in
     ((y : Stop) × (turn_at at (plain f.list) ≡ Halt y) × HaltsBy n y × (new ≡ old))
-    ⊎ (((turn_at at (plain f.list) ≡ throw_error) × EndsWith no_error old n new)
+    ⊎ (((turn_at at (plain f.list) ≡ throw_new type_error) × Throws type_error old n new)
     ⊎ ((mid : Held) × PutsText at (turn_at at (plain f.list)) old mid × GoesOn (suc at) mid n new)))
 
 -- a place of some values, where a text came of it

@@ -4,10 +4,12 @@ use Rattle.std.specs.Prelude.{ℕ, zero, suc, List, [], ◌∷◌, ◌++◌, tak
 use Rattle.sr_model.specs.Values.{Text, Value, Simple, Undefined}
 use Rattle.sr_model.specs.Scripts.{Pay}
 use Rattle.sr_conv.specs.Conversions.{to_text}
-use Rattle.sr_state.specs.declared.frame.BuiltIn.{BuiltIn}
+use Rattle.sr_intrin.specs.declared.names.BuiltIn.{BuiltIn}
+use Rattle.sr_realm.specs.Errors.{type_error}
+use Rattle.sr_state.specs.Errors.{throw_new}
 use Rattle.sr_state.specs.Work.{Steps}
 use Rattle.sr_state.specs.Step.{At}
-use Rattle.sr_state.specs.Trees.{value_in, text_in, give_value, throw_error, computed, kept_at}
+use Rattle.sr_state.specs.Trees.{value_in, text_in, give_value, computed, kept_at}
 use Rattle.sr_call.specs.Rows.{print_line, print_rest, built_in_row}
 
 -- the texts that values are
@@ -20,7 +22,7 @@ rest_at n vs = print_rest (drop n vs) (texts_in (take n vs))
 
 -- the turn of the first argument that is left, once its step is paid. A frame waits only where there is one
 abbrev pub turn : List Value → List Text → Steps
-turn [] texts = throw_error
+turn [] texts = throw_new type_error
 turn (v ∷ vs) texts = computed (to_text v) (λ s. print_rest vs (texts ++ s ∷ []))
 
 abbrev pub turn_at : ℕ → List Value → Steps

@@ -4,7 +4,8 @@ ghost use Rattle.sr_state.specs.Step.{StepsBy};
 ghost use Rattle.sr_call.specs.Stages.{built_in_at};
 
 use crate::printing::{argument, go_on, print_line};
-use sr_state::{BuiltIn, Next, Over, State};
+use sr_intrin::BuiltIn;
+use sr_state::{Next, Over, State};
 use sr_value::Value;
 use std::alloc::AllocError;
 
@@ -16,6 +17,8 @@ fn call(state: &mut State, function: BuiltIn) -> Result<Next, Over>
         0 => {
             state.enter()?;
             match function {
+                BuiltIn::FunctionPrototype => Ok(state.give(Value::Undefined)),
+                BuiltIn::Error(_) => Ok(state.throw()),
                 BuiltIn::Print => go_on(state, 0),
             }
         }

@@ -96,6 +96,6 @@ pub fn argument(state: &mut State, number: u32) -> Result<Next, Over>
             go_on(state, after(number)?)
         }
         Computed::Stops(stop) => Ok(Next::Halt(StopName::Number(stop))),
-        Computed::Fails => Ok(state.throw()),
+        Computed::Fails => Ok(state.throw_type_error()?),
     }
 }

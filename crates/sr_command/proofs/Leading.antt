@@ -5,7 +5,7 @@ use Rattle.sr_ast.specs.declared.reading.Reading.{Reading}
 use Rattle.sr_model.specs.Values.{Text, Path}
 use Rattle.sr_model.specs.Events.{Script}
 use Rattle.sr_model.specs.World as worlds
-use Rattle.sr_model.specs.Globals.{Holds}
+use Rattle.sr_state.specs.Work.{Holds}
 use Rattle.sr_worlds.specs.Evaluation.{Done, Over}
 use Rattle.sr_worlds.specs.Live.{Why, Stopped, Steps, Short, LiveRan}
 use Rattle.sr_worlds.specs.Run.{File}

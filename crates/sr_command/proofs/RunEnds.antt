@@ -9,7 +9,7 @@ use Rattle.sr_model.specs.Outcomes.{StringLength}
 use Rattle.sr_model.specs.Events.{Script}
 use Rattle.sr_model.specs.Realm.{Realm}
 use Rattle.sr_model.specs.World as worlds
-use Rattle.sr_model.specs.Globals.{Holds}
+use Rattle.sr_state.specs.Work.{Holds}
 use Rattle.sr_worlds.specs.Evaluation.{Done}
 use Rattle.sr_worlds.specs.Live.{Why, over}
 use Rattle.sr_worlds.specs.Run.{uncaught}

@@ -8,9 +8,8 @@ use Rattle.sr_model.specs.Events.{Script}
 use Rattle.sr_model.specs.World as worlds
 use Rattle.sr_outside.specs.declared.sink.WriteRefusal.TheVariants.{Failed, Memory}
 use Rattle.sr_state.specs.Held.{Held}
-use Rattle.sr_machine.specs.Language.{source_of}
 use Rattle.sr_machine.specs.Going.{line_of, printed_bytes, writes_of, Under, GoesOn, BreaksOff, left_of}
-use Rattle.sr_machine.specs.Running.{Running, given, source_run, source_tapes}
+use Rattle.sr_machine.specs.Running.{Running, given, source_as, source_run, source_tapes}
 use Rattle.sr_machine.proofs.Begins.{begins, writes_first}
 use Rattle.sr_command.specs.Writes.{Write, out, Gains, IsCut, here, later, first_bytes, streams}
 use Rattle.sr_command.specs.Courses.{write_of, is_uncaught}
@@ -48,13 +47,13 @@ module _ (bound : ℕ) (name text : List ℕ) (r : Reading) where
     pub under : IsRunOf written h
 
   -- as the loop begins
-  pub begun_so : (before : Option (List ℕ)) (run : Running) → run ≡ given bound (source_of (λ t. r) text) → SoFar run.held before before
+  pub begun_so : (before : Option (List ℕ)) (run : Running) → run ≡ given bound (source_as (λ t. r) text) → SoFar run.held before before
   begun_so before run is = record {
     written = [];
     gained = λ e. nothing_gained (streams before e);
     caught = λ more. refl;
     under = λ read same. subst (λ (x : Running). Under read bound (source_tapes Script name text) (source_run read bound Script name text) [] x.held)
-        (ap (λ (y : Reading). given bound (source_of (λ t. y) text)) same ∙ sym is) (begins read bound Script name text);
+        (ap (λ (y : Reading). given bound (source_as (λ t. y) text)) same ∙ sym is) (begins read bound Script name text);
   }
 
   -- what was written is a point of the run

@@ -4,7 +4,7 @@ use Rattle.sr_ast.specs.declared.reading.Reading.{Reading}
 use Rattle.sr_model.specs.Values.{Text, Name, root}
 use Rattle.sr_model.specs.Outcomes.{Completion}
 use Rattle.sr_model.specs.World.{Write, World}
-use Rattle.sr_model.specs.Globals.{Holds}
+use Rattle.sr_state.specs.Work.{Holds}
 use Rattle.sr_worlds.specs.Evaluation.{then_do, ev}
 use Rattle.sr_worlds.specs.Live.{LiveRan, live}
 use Rattle.sr_worlds.specs.Run.{uncaught, turns, ran_all}

@@ -8,7 +8,8 @@ use Rattle.sr_tag.specs.Path.{path_text}
 use Rattle.sr_model.specs.Values.{Path}
 use Rattle.sr_model.specs.Outcomes.{NumberStop, NegativeZero, Fraction, Infinite, Unsafe, Form, Stop, Number, Boxing, FunctionText, StringLength, CallDepth, SyntaxDepth, Unsupported, RealmPath}
 use Rattle.sr_model.specs.World as worlds
-use Rattle.sr_model.specs.Globals.{Holds, Spot}
+use Rattle.sr_model.specs.Holds.{Spot}
+use Rattle.sr_state.specs.Work.{Holds}
 use Rattle.sr_worlds.specs.Evaluation.{Done, Over}
 use Rattle.sr_worlds.specs.Live.{Why, Stopped, Steps, LiveRan}
 use Rattle.sr_machine.specs.Going.{line_of}

@@ -7,7 +7,7 @@ use Rattle.sr_ast.specs.declared.reading.Reading.{Reading}
 use Rattle.sr_model.specs.Values.{Text, root}
 use Rattle.sr_model.specs.Outcomes.{StringLength}
 use Rattle.sr_model.specs.Events as events
-use Rattle.sr_model.specs.Globals.{Holds}
+use Rattle.sr_state.specs.Work.{Holds}
 use Rattle.sr_worlds.specs.Live.{LiveRan}
 use Rattle.sr_worlds.specs.Run.{run}
 use Rattle.sr_outside.specs.declared.loader.Loaded.{Loaded}

@@ -4,8 +4,7 @@ ghost use Rattle.sr_outside.specs.Loading.{IsHeld};
 ghost use Rattle.sr_outside.specs.declared.loader.Loaded.{Loaded};
 ghost use Rattle.sr_outside.specs.declared.loader.Loaded.TheVariants.{Text};
 ghost use Rattle.sr_ast.specs.declared.reading.Reading.{Reading};
-ghost use Rattle.sr_machine.specs.Language.{source_of};
-ghost use Rattle.sr_machine.specs.Running.{given};
+ghost use Rattle.sr_machine.specs.Running.{given, source_as};
 ghost use Rattle.sr_command.specs.Writes.{streams};
 ghost use Rattle.sr_command.specs.Courses as courses;
 ghost use Rattle.sr_command.specs.Courses.{line_ending};
@@ -20,7 +19,7 @@ use sr_machine::{Advance, Live, StopAt};
 use sr_num::NumStop;
 use sr_outside::{Loaded, Loader, Sink, WriteRefusal};
 use sr_script::read_source;
-use sr_state::StopName;
+use sr_state::{Source, StopName};
 use sr_text::{Marker, Str, TextRefusal};
 use std::alloc::{AllocError, Global};
 
@@ -206,8 +205,8 @@ fn run_to_end<O: Sink, E: Sink>(
     out: &mut O,
     err: &mut E,
 ) -> Result<Status, WriteRefusal>
-    requires { (text : List ℕ) × (r : Reading) × (live.old ≡ given asked.bound (source_of (λ _. r) text)) }
-    ensures reaches { (text : List ℕ) (r : Reading) → live.old ≡ given asked.entry.bound (source_of (λ _. r) text) → Reaches (RunsReading asked.entry.bound asked.entry.name.now text r) result (streams (O.written out.old) (E.written err.old)) (streams (O.written out.new) (E.written err.new)) }
+    requires { (text : List ℕ) × (r : Reading) × (live.old ≡ given asked.bound (source_as (λ _. r) text)) }
+    ensures reaches { (text : List ℕ) (r : Reading) → live.old ≡ given asked.entry.bound (source_as (λ _. r) text) → Reaches (RunsReading asked.entry.bound asked.entry.name.now text r) result (streams (O.written out.old) (E.written err.old)) (streams (O.written out.new) (E.written err.new)) }
     ensures read { result ≡ Ok Status.ReadFailed → ⊥ }
     ensures cause { IsErrOf result WriteRefusal.Failed → Rose (O.faults out.old) (O.faults out.new) ⊎ Rose (E.faults err.old) (E.faults err.new) }
     ensures out_faults { O.faults out.old ≤ O.faults out.new }
@@ -229,19 +228,21 @@ fn run_to_end<O: Sink, E: Sink>(
 fn run_source<O: Sink, E: Sink>(
     alloc: Global,
     asked: Asked<'_>,
-    source: SourceCode,
+    text: &Str,
+    code: SourceCode,
     out: &mut O,
     err: &mut E,
 ) -> Result<Status, WriteRefusal>
-    requires { (text : List ℕ) × (source.units ≡ length text) }
-    ensures reaches { (text : List ℕ) → source.units ≡ length text → Reaches (RunsReading asked.entry.bound asked.entry.name.now text source.reading) result (streams (O.written out.old) (E.written err.old)) (streams (O.written out.new) (E.written err.new)) }
+    requires { code.units ≡ length text.now }
+    ensures reaches { Reaches (RunsReading asked.entry.bound asked.entry.name.now text.now code.reading) result (streams (O.written out.old) (E.written err.old)) (streams (O.written out.new) (E.written err.new)) }
     ensures read { result ≡ Ok Status.ReadFailed → ⊥ }
     ensures cause { IsErrOf result WriteRefusal.Failed → Rose (O.faults out.old) (O.faults out.new) ⊎ Rose (E.faults err.old) (E.faults err.new) }
     ensures out_faults { O.faults out.old ≤ O.faults out.new }
     ensures err_faults { E.faults err.old ≤ E.faults err.new }
 {
     let mut live = Live::open(alloc, asked.bound)?;
-    live.give_source(source);
+    let copy = text.clone()?;
+    live.give_source(Source { text: copy, code });
     run_to_end(alloc, asked, &mut live, out, err)
 }
 
@@ -260,7 +261,7 @@ fn run_text<O: Sink, E: Sink>(
     ensures err_faults { E.faults err.old ≤ E.faults err.new }
 {
     match read_source(alloc, text)? {
-        Some(source) => run_source(alloc, asked, source, out, err),
+        Some(code) => run_source(alloc, asked, text, code, out, err),
         None => end_not_built(alloc, asked.name, err),
     }
 }

@@ -7,6 +7,7 @@ use Rattle.sr_conv.specs.declared.answers.Computed.TheVariants as answer
 use Rattle.sr_conv.specs.declared.answers.Operated.{Operated}
 use Rattle.sr_conv.specs.declared.answers.Operated.TheVariants as operated
 use Rattle.sr_conv.specs.declared.answers.Stepped.{Stepped}
+use Rattle.sr_value.specs.Live.{IsPrimitive}
 use Rattle.sr_conv.specs.Plain.{value_of, number_stop_of}
 use Rattle.sr_conv.specs.Computed as spec
 use Rattle.sr_conv.specs.Operators as operators
@@ -34,3 +35,8 @@ operated_of (operated.Gives v) = operators.Gives (value_of v)
 operated_of (operated.Joins s t) = operators.Joins s t
 operated_of (operated.Halts stop) = operators.Halts (Number (number_stop_of stop))
 operated_of operated.Rejects = operators.Rejects
+
+-- an operator gives no object
+abbrev pub GivesPrimitive : Operated → Type 0
+GivesPrimitive (operated.Gives v) = IsPrimitive v
+GivesPrimitive w = Unit {0}

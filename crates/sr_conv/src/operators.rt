@@ -7,7 +7,7 @@ ghost use Rattle.sr_conv.specs.Conversions.{type_word};
 ghost use Rattle.sr_conv.specs.Comparison.{is_loosely_equal, same_truth};
 ghost use Rattle.sr_conv.specs.Operators as spec;
 ghost use Rattle.sr_conv.specs.Operators.{to_numeric};
-ghost use Rattle.sr_conv.specs.Answers.{number_computed, computed_of, stepped_of, operated_of};
+ghost use Rattle.sr_conv.specs.Answers.{GivesPrimitive, number_computed, computed_of, stepped_of, operated_of};
 ghost use Rattle.sr_conv.specs.Steps as steps;
 
 use crate::answers::{Computed, Operated, Stepped};
@@ -41,7 +41,8 @@ fn of_numbers(op: BinaryOp, m: Num, n: Num) -> Result<Num, NumStop>
 
 /// A number, or the stop in place of one.
 fn gives_number(outcome: Result<Num, NumStop>) -> Operated
-    ensures { operated_of result ≡ spec.gives_number (counted outcome) }
+    ensures same { operated_of result ≡ spec.gives_number (counted outcome) }
+    ensures primitive { GivesPrimitive result }
 {
     match outcome {
         Ok(n) => Operated::Gives(Value::Num(n)),
@@ -51,7 +52,8 @@ fn gives_number(outcome: Result<Num, NumStop>) -> Operated
 
 /// What such an operator makes of two values, the left one made a number first (ECMA-262 13.15.3).
 fn arithmetic(op: BinaryOp, x: &Value, y: &Value) -> Operated
-    ensures { operated_of result ≡ steps.arithmetic op (value_of x.now) (value_of y.now) }
+    ensures same { operated_of result ≡ steps.arithmetic op (value_of x.now) (value_of y.now) }
+    ensures primitive { GivesPrimitive result }
 {
     match both_numbers(x, y) {
         Computed::Is((m, n)) => gives_number(of_numbers(op, m, n)),
@@ -62,7 +64,8 @@ fn arithmetic(op: BinaryOp, x: &Value, y: &Value) -> Operated
 
 /// Both values as strings, the left one made a string first.
 fn joined(alloc: Global, x: &Value, y: &Value) -> Result<Operated, AllocError>
-    ensures { IfOk result (λ r. operated_of r ≡ steps.joined (value_of x.now) (value_of y.now)) }
+    ensures same { IfOk result (λ r. operated_of r ≡ steps.joined (value_of x.now) (value_of y.now)) }
+    ensures primitive { IfOk result GivesPrimitive }
 {
     let left = match to_text(alloc, x)? {
         Computed::Is(text) => text,
@@ -88,7 +91,8 @@ fn is_string(x: &Value) -> bool
 /// The operator `+` (ECMA-262 13.15.3): where either value is a string both are joined, else they are added.
 #[tactic(auto, using(crate::proofs::Cuts::added_text, crate::proofs::Cuts::added_numbers))]
 fn added(alloc: Global, x: &Value, y: &Value) -> Result<Operated, AllocError>
-    ensures { IfOk result (λ r. operated_of r ≡ spec.added (value_of x.now) (value_of y.now)) }
+    ensures same { IfOk result (λ r. operated_of r ≡ spec.added (value_of x.now) (value_of y.now)) }
+    ensures primitive { IfOk result GivesPrimitive }
 {
     if is_string(x) || is_string(y) {
         joined(alloc, x, y)
@@ -98,14 +102,16 @@ fn added(alloc: Global, x: &Value, y: &Value) -> Result<Operated, AllocError>
 }
 
 fn gives_truth(b: bool) -> Operated
-    ensures { operated_of result ≡ spec.gives_truth b }
+    ensures same { operated_of result ≡ spec.gives_truth b }
+    ensures primitive { GivesPrimitive result }
 {
     Operated::Gives(Value::Bool(b))
 }
 
 /// Whether a comparison is told and holds (ECMA-262 13.10.1).
 fn holds(comparison: Computed<Option<bool>>) -> Operated
-    ensures { operated_of result ≡ spec.operated (computed_of (λ b. b) comparison) spec.holds }
+    ensures same { operated_of result ≡ spec.operated (computed_of (λ b. b) comparison) spec.holds }
+    ensures primitive { GivesPrimitive result }
 {
     match comparison {
         Computed::Is(told) => gives_truth(told.unwrap_or(false)),
@@ -116,7 +122,8 @@ fn holds(comparison: Computed<Option<bool>>) -> Operated
 
 /// Whether a comparison is told and does not hold (ECMA-262 13.10.1).
 fn fails(comparison: Computed<Option<bool>>) -> Operated
-    ensures { operated_of result ≡ spec.operated (computed_of (λ b. b) comparison) spec.fails }
+    ensures same { operated_of result ≡ spec.operated (computed_of (λ b. b) comparison) spec.fails }
+    ensures primitive { GivesPrimitive result }
 {
     match comparison {
         Computed::Is(told) => gives_truth(!told.unwrap_or(true)),
@@ -127,7 +134,8 @@ fn fails(comparison: Computed<Option<bool>>) -> Operated
 
 /// Whether it is as wanted that two values are loosely equal (ECMA-262 13.11.1).
 fn equality(x: &Value, y: &Value, wanted: bool) -> Operated
-    ensures { operated_of result ≡ spec.operated (is_loosely_equal (value_of x.now) (value_of y.now)) (λ b. spec.gives_truth (same_truth b wanted)) }
+    ensures same { operated_of result ≡ spec.operated (is_loosely_equal (value_of x.now) (value_of y.now)) (λ b. spec.gives_truth (same_truth b wanted)) }
+    ensures primitive { GivesPrimitive result }
 {
     match loosely_equal(x, y) {
         Computed::Is(equal) => gives_truth(equal == wanted),
@@ -141,7 +149,8 @@ fn equality(x: &Value, y: &Value, wanted: bool) -> Operated
 /// want an object on the right (13.10.1, 13.10.2) and with one are not built.
 #[tactic(auto, unfolding(crate::specs::Operators::operate), using(crate::proofs::Cuts::less_right))]
 pub fn operate(alloc: Global, op: BinaryOp, x: &Value, y: &Value) -> Result<Operated, AllocError>
-    ensures { IfOk result (λ r. operated_of r ≡ spec.operate op (value_of x.now) (value_of y.now)) }
+    ensures same { IfOk result (λ r. operated_of r ≡ spec.operate op (value_of x.now) (value_of y.now)) }
+    ensures primitive { IfOk result GivesPrimitive }
 {
     match op {
         BinaryOp::Add => added(alloc, x, y),
@@ -184,7 +193,8 @@ fn type_word(alloc: Global, x: &Value) -> Result<Str, AllocError>
 
 /// Minus a value (ECMA-262 13.5.5).
 fn negated(x: &Value) -> Operated
-    ensures { operated_of result ≡ spec.gives_number (and_then (to_numeric (value_of x.now)) (λ n. counted (negation n))) }
+    ensures same { operated_of result ≡ spec.gives_number (and_then (to_numeric (value_of x.now)) (λ n. counted (negation n))) }
+    ensures primitive { GivesPrimitive result }
 {
     match to_number(x) {
         Computed::Is(n) => gives_number(n.neg()),
@@ -195,7 +205,8 @@ fn negated(x: &Value) -> Operated
 
 /// A computed number.
 fn gives_computed(computed: Computed<Num>) -> Operated
-    ensures { operated_of result ≡ spec.gives_number (number_computed computed) }
+    ensures same { operated_of result ≡ spec.gives_number (number_computed computed) }
+    ensures primitive { GivesPrimitive result }
 {
     match computed {
         Computed::Is(n) => Operated::Gives(Value::Num(n)),
@@ -206,7 +217,8 @@ fn gives_computed(computed: Computed<Num>) -> Operated
 
 /// The bits of a value turned over (ECMA-262 13.5.6).
 fn bits_turned(x: &Value) -> Operated
-    ensures { operated_of result ≡ spec.gives_number (and_then (to_numeric (value_of x.now)) (λ n. Is (bitwise_not n))) }
+    ensures same { operated_of result ≡ spec.gives_number (and_then (to_numeric (value_of x.now)) (λ n. Is (bitwise_not n))) }
+    ensures primitive { GivesPrimitive result }
 {
     match to_number(x) {
         Computed::Is(n) => gives_number(Ok(n.not())),
@@ -218,7 +230,8 @@ fn bits_turned(x: &Value) -> Operated
 /// An operator before a value (ECMA-262 13.5). `delete` of what is no reference is true (13.5.1.2).
 #[tactic(auto, unfolding(crate::specs::Operators::operate_one))]
 pub fn operate_one(alloc: Global, op: UnaryOp, x: &Value) -> Result<Operated, AllocError>
-    ensures { IfOk result (λ r. operated_of r ≡ spec.operate_one op (value_of x.now)) }
+    ensures same { IfOk result (λ r. operated_of r ≡ spec.operate_one op (value_of x.now)) }
+    ensures primitive { IfOk result GivesPrimitive }
 {
     match op {
         UnaryOp::Delete => Ok(gives_truth(true)),

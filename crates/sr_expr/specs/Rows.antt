@@ -20,19 +20,16 @@ use Rattle.sr_ast.specs.declared.operators.UnaryOp.{UnaryOp}
 use Rattle.sr_ast.specs.declared.operators.UnaryOp.TheVariants as unary_op
 use Rattle.sr_ast.specs.declared.operators.UpdateOp.{UpdateOp}
 use Rattle.sr_model.specs.Values.{Text, Value, Simple, Undefined, Null, Truth, Num, Str}
-use Rattle.sr_model.specs.Tasks.{Run, Perform}
-use Rattle.sr_model.specs.Scripts.{Give, Look, Change, Become}
-use Rattle.sr_model.specs.Globals.{assigned, global_value, either}
+use Rattle.sr_model.specs.Tasks.{Context, Run, Perform}
+use Rattle.sr_model.specs.Scripts.{Become}
+use Rattle.sr_model.specs.Holds.{either}
+use Rattle.sr_model.specs.Names.{Base}
 use Rattle.sr_conv.specs.Conversions.{to_boolean}
 use Rattle.sr_conv.specs.Operators.{operate, operate_one, step_number, shown, Stepped}
-use Rattle.sr_state.specs.declared.frame.BuiltIn.TheVariants as built_in
+use Rattle.sr_intrin.specs.declared.names.BuiltIn.TheVariants as built_in
+use Rattle.sr_state.specs.Errors.{based, value_there, name_value, put_there}
 use Rattle.sr_state.specs.Work.{Steps}
-use Rattle.sr_state.specs.Step.{found}
 use Rattle.sr_state.specs.Trees.{give_value, throw_error, computed, operated, begin, valued}
-
--- gives a name a value, and ends with a value (6.2.5.6 PutValue)
-abbrev pub put_and_give : Text → Value → Value → Steps
-put_and_give x v given = Change (assigned x v) (give_value given)
 
 -- 13.13: whether the left operand decides
 abbrev pub is_nullish : Value → Bool
@@ -76,84 +73,109 @@ is_prefix_built op = true
 abbrev pub between : BinaryOp → (Value → Steps) → Value → Value → Steps
 between op k x y = operated (operate op x y) k
 
--- 13.4: the old value, and the new one
-abbrev pub stored : UpdateOp → Text → Stepped → Steps
-stored op x n = put_and_give x (Simple (Num n.after)) (Simple (Num (shown op n.before n.after)))
-
--- 13.15.2: the target is given the value
-abbrev pub put : Tree → Value → Steps
-put t v = put_and_give (name_in t) v v
-
-module _ (s e : ℕ) where
+module _ (c : Context) where
   -- a tree that is not built: after its charge an error is thrown. No script that is accepted has one
   abbrev pub not_built : ℕ → Steps
-  not_built at = begin s e at throw_error
+  not_built at = begin c at throw_error
 
   -- 13.2.3: a literal
   abbrev pub literal : ℕ → Value → Steps
-  literal at v = begin s e at (give_value v)
+  literal at v = begin c at (give_value v)
 
-  -- 13.1.3: the value of a name, or a ReferenceError (6.2.5.5 GetValue)
+  -- 13.1.3: the value of a name, or a ReferenceError
   abbrev pub name : ℕ → Text → Steps
-  name at x = begin s e at (Look (λ r. Give (found (global_value x r))))
+  name at x = begin c at (name_value c x give_value)
+
+  -- 13.15.2: the target of an assignment, a name, which pays its own charge; and then k by where it is bound
+  abbrev pub target : Tree → (Base → Steps) → Steps
+  target t k = begin c t.from (based c (name_in t) k)
+
+  -- and with its old value
+  abbrev pub old_value : Tree → (Value → Steps) → Base → Steps
+  old_value t k b = value_there c b (name_in t) k
+
+  -- the target is given a value, and the expression ends with a value (6.2.5.6 PutValue)
+  abbrev pub put_and_give : Tree → Base → Value → Value → Steps
+  put_and_give t b v given = put_there c b (name_in t) v (give_value given)
+
+  abbrev pub put : Tree → Base → Value → Steps
+  put t b v = put_and_give t b v v
 
   -- 13.16: expressions in order; the last one gives the value
   abbrev pub in_order : List Tree → Value → Steps
   in_order [] v = give_value v
-  in_order (t ∷ ts) v = valued s e t (λ w. in_order ts w)
+  in_order (t ∷ ts) v = valued c t (λ w. in_order ts w)
 
   abbrev pub sequence : ℕ → List Tree → Steps
-  sequence at ts = begin s e at (in_order ts (Simple Undefined))
+  sequence at ts = begin c at (in_order ts (Simple Undefined))
 
   -- 13.14: the condition, and then one of the two
   abbrev pub chosen : Tree → Tree → Value → Steps
-  chosen a b x = either (to_boolean x) (Become (Run s e a)) (Become (Run s e b))
+  chosen a b x = either (to_boolean x) (Become (Run c a)) (Become (Run c b))
 
   abbrev pub condition : ℕ → Tree → Tree → Tree → Steps
-  condition at c a b = begin s e at (valued s e c (chosen a b))
+  condition at test a b = begin c at (valued c test (chosen a b))
 
   -- 13.13: the left operand, and where it does not decide the right one
   abbrev pub undecided : LogicalOp → Tree → Value → Steps
-  undecided op b x = either (decides op x) (give_value x) (Become (Run s e b))
+  undecided op b x = either (decides op x) (give_value x) (Become (Run c b))
 
   abbrev pub logical : ℕ → LogicalOp → Tree → Tree → Steps
-  logical at op a b = begin s e at (valued s e a (undecided op b))
+  logical at op a b = begin c at (valued c a (undecided op b))
 
-  -- 13.15.4: both operands from left to right, the operator, and then k
-  abbrev pub both : BinaryOp → Tree → Tree → (Value → Steps) → Steps
-  both op a b k = valued s e a (λ x. valued s e b (between op k x))
+  -- 13.15.4: both operands from left to right, and the operator
+  abbrev pub right_operand : BinaryOp → Tree → Value → Steps
+  right_operand op b x = valued c b (between op give_value x)
 
   abbrev pub binary : ℕ → BinaryOp → Tree → Tree → Steps
-  binary at op a b = begin s e at (both op a b give_value)
+  binary at op a b = begin c at (valued c a (right_operand op b))
 
   abbrev pub operator : ℕ → BinaryOp → Tree → Tree → Steps
   operator at op a b = either (is_built op) (binary at op a b) (not_built at)
 
   -- 13.5: the operand, and the operator
   abbrev pub unary : ℕ → UnaryOp → Tree → Steps
-  unary at op a = begin s e at (valued s e a (λ x. operated (operate_one op x) give_value))
+  unary at op a = begin c at (valued c a (λ x. operated (operate_one op x) give_value))
 
   abbrev pub prefix : ℕ → UnaryOp → Tree → Steps
   prefix at op a = either (is_prefix_built op) (unary at op a) (not_built at)
 
-  -- 13.4: the old value of the target, and the new one
-  abbrev pub update : ℕ → UpdateOp → Tree → Steps
-  update at op t = begin s e at (valued s e t (λ v. computed (step_number op v) (stored op (name_in t))))
+  -- 13.4: the old value of the target is made a number, and the new one is given to the target
+  abbrev pub stored : UpdateOp → Tree → Base → Stepped → Steps
+  stored op t b n = put_and_give t b (Simple (Num n.after)) (Simple (Num (shown op n.before n.after)))
 
-  -- 13.15.2: `=`. The old value is not read, and the target pays its own charge
+  abbrev pub stepped : UpdateOp → Tree → Base → Steps
+  stepped op t b = old_value t (λ v. computed (step_number op v) (stored op t b)) b
+
+  abbrev pub update : ℕ → UpdateOp → Tree → Steps
+  update at op t = begin c at (target t (stepped op t))
+
+  -- 13.15.2: `=`. The old value is not read
+  abbrev pub put_right : Tree → Tree → Base → Steps
+  put_right t right b = valued c right (put t b)
+
   abbrev pub plain_assignment : ℕ → Tree → Tree → Steps
-  plain_assignment at t b = begin s e at (begin s e t.from (valued s e b (put t)))
+  plain_assignment at t right = begin c at (target t (put_right t right))
 
   -- 13.15.2: an operator and `=`. The old value, the right side, and the operator
+  abbrev pub operated_right : BinaryOp → Tree → Tree → Base → Value → Steps
+  operated_right op t right b x = valued c right (between op (put t b) x)
+
+  abbrev pub compound : BinaryOp → Tree → Tree → Base → Steps
+  compound op t right b = old_value t (operated_right op t right b) b
+
   abbrev pub compound_assignment : ℕ → BinaryOp → Tree → Tree → Steps
-  compound_assignment at op t b = begin s e at (both op t b (put t))
+  compound_assignment at op t right = begin c at (target t (compound op t right))
 
   -- 13.15.2: a logical operator and `=`. The old value, and where it does not decide the right side
-  abbrev pub put_undecided : LogicalOp → Tree → Tree → Value → Steps
-  put_undecided op t b x = either (decides op x) (give_value x) (valued s e b (put t))
+  abbrev pub put_undecided : LogicalOp → Tree → Tree → Base → Value → Steps
+  put_undecided op t right b x = either (decides op x) (give_value x) (put_right t right b)
+
+  abbrev pub unless_decided : LogicalOp → Tree → Tree → Base → Steps
+  unless_decided op t right b = old_value t (put_undecided op t right b) b
 
   abbrev pub logical_assignment : ℕ → LogicalOp → Tree → Tree → Steps
-  logical_assignment at op t b = begin s e at (valued s e t (put_undecided op t b))
+  logical_assignment at op t right = begin c at (target t (unless_decided op t right))
 
   abbrev pub assignment : ℕ → AssignOp → Tree → Tree → Steps
   assignment at assign.Plain t b = plain_assignment at t b
@@ -167,11 +189,11 @@ module _ (s e : ℕ) where
   abbrev pub arguments : List (Option Tree) → List Value → Steps
   arguments [] vs = called vs
   arguments (None ∷ ts) vs = throw_error
-  arguments (Some t ∷ ts) vs = valued s e t (λ v. arguments ts (vs ++ v ∷ []))
+  arguments (Some t ∷ ts) vs = valued c t (λ v. arguments ts (vs ++ v ∷ []))
 
   -- 13.3.6: the callee, which is `print` and pays its own charge, the arguments, and the call
   abbrev pub call : ℕ → Tree → List (Option Tree) → Steps
-  call at callee ts = begin s e at (begin s e callee.from (arguments ts []))
+  call at callee ts = begin c at (begin c callee.from (arguments ts []))
 
   -- 13.3.9: optional chains are not built
   abbrev pub linked : ℕ → Link → Tree → List (Option Tree) → Steps

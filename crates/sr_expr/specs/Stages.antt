@@ -14,101 +14,104 @@ use Rattle.sr_ast.specs.declared.operators.AssignOp.TheVariants as assign
 use Rattle.sr_ast.specs.declared.operators.UnaryOp.{UnaryOp}
 use Rattle.sr_ast.specs.declared.operators.UpdateOp.{UpdateOp}
 use Rattle.sr_model.specs.Values.{Text, Value, Simple, Null, Truth, Num, Str}
-use Rattle.sr_model.specs.Globals.{either}
+use Rattle.sr_model.specs.Holds.{either}
+use Rattle.sr_model.specs.Tasks.{Context}
 use Rattle.sr_conv.specs.Operators.{operate_one, step_number}
 use Rattle.sr_state.specs.Work.{Steps}
 use Rattle.sr_state.specs.Step.{Given, At}
 use Rattle.sr_state.specs.Trees.{value_in, give_value, throw_error, computed, operated, begin, valued, valued_at, kept_at}
-use Rattle.sr_expr.specs.Rows.{expression_of, name_in, is_built, is_prefix_built, between, stored, put, not_built, literal, name, in_order, sequence, chosen, condition, undecided, logical, both, unary, update, plain_assignment, put_undecided, logical_assignment, arguments, call}
-
--- ends with a value, which is given to the target, where there is one
-abbrev pub finish : Option Tree → Value → Steps
-finish None v = give_value v
-finish (Some t) v = put t v
+use Rattle.sr_expr.specs.Rows.{expression_of, is_built, is_prefix_built, between, not_built, literal, name, in_order, sequence, chosen, condition, undecided, logical, right_operand, binary, unary, target, stepped, update, put, put_right, plain_assignment, compound, compound_assignment, unless_decided, logical_assignment, arguments, call}
 
 module _ (at : ℕ) where
   abbrev pub not_built_at : At
-  not_built_at s zero kept g = not_built s 0 at
+  not_built_at s zero kept g = not_built s at
   not_built_at s (suc n) kept g = throw_error
 
   abbrev pub literal_at : Value → At
-  literal_at v s zero kept g = literal s 0 at v
+  literal_at v s zero kept g = literal s at v
   literal_at v s (suc n) kept g = throw_error
 
   abbrev pub name_at : Text → At
-  name_at x s zero kept g = name s 0 at x
+  name_at x s zero kept g = name s at x
   name_at x s (suc n) kept g = throw_error
 
   -- at stage n + 1 the n-th expression is under way
-  abbrev pub in_order_at : ℕ → Given → List Tree → Steps
+  abbrev pub in_order_at : Context → Given → List Tree → Steps
   in_order_at s g [] = throw_error
-  in_order_at s g (t ∷ ts) = valued_at s 0 g t (λ v. in_order s 0 ts v)
+  in_order_at s g (t ∷ ts) = valued_at s g t (λ v. in_order s ts v)
 
   abbrev pub sequence_at : List Tree → At
-  sequence_at ts s zero kept g = sequence s 0 at ts
+  sequence_at ts s zero kept g = sequence s at ts
   sequence_at ts s (suc n) kept g = in_order_at s g (drop n ts)
 
   abbrev pub condition_at : Tree → Tree → Tree → At
-  condition_at c a b s zero kept g = condition s 0 at c a b
-  condition_at c a b s (suc n) kept g = valued_at s 0 g c (chosen s 0 a b)
+  condition_at c a b s zero kept g = condition s at c a b
+  condition_at c a b s (suc n) kept g = valued_at s g c (chosen s a b)
 
   abbrev pub logical_at : LogicalOp → Tree → Tree → At
-  logical_at op a b s zero kept g = logical s 0 at op a b
-  logical_at op a b s (suc n) kept g = valued_at s 0 g a (undecided s 0 op b)
+  logical_at op a b s zero kept g = logical s at op a b
+  logical_at op a b s (suc n) kept g = valued_at s g a (undecided s op b)
 
   -- at the left operand, at the right one, and where a string that was joined is paid
-  abbrev pub both_at : BinaryOp → Tree → Tree → (Value → Steps) → At
-  both_at op a b k s zero kept g = begin s 0 at (both s 0 op a b k)
-  both_at op a b k s (suc zero) kept g = valued_at s 0 g a (λ x. valued s 0 b (between op k x))
-  both_at op a b k s (suc (suc zero)) kept g = valued_at s 0 g b (between op k (value_in kept.value))
-  both_at op a b k s (suc (suc (suc n))) kept g = kept_at kept.value k
+  abbrev pub binary_at : BinaryOp → Tree → Tree → At
+  binary_at op a b s zero kept g = binary s at op a b
+  binary_at op a b s (suc zero) kept g = valued_at s g a (right_operand s op b)
+  binary_at op a b s (suc (suc zero)) kept g = valued_at s g b (between op give_value (value_in kept.value))
+  binary_at op a b s (suc (suc (suc n))) kept g = kept_at kept.value give_value
 
   abbrev pub operator_at : BinaryOp → Tree → Tree → At
-  operator_at op a b = either (is_built op) (both_at op a b (finish None)) not_built_at
+  operator_at op a b = either (is_built op) (binary_at op a b) not_built_at
 
   -- at the operand, and where a string that was made is paid
   abbrev pub unary_at : UnaryOp → Tree → At
-  unary_at op a s zero kept g = unary s 0 at op a
-  unary_at op a s (suc zero) kept g = valued_at s 0 g a (λ x. operated (operate_one op x) give_value)
+  unary_at op a s zero kept g = unary s at op a
+  unary_at op a s (suc zero) kept g = valued_at s g a (λ x. operated (operate_one op x) give_value)
   unary_at op a s (suc (suc n)) kept g = kept_at kept.value give_value
 
   abbrev pub prefix_at : UnaryOp → Tree → At
   prefix_at op a = either (is_prefix_built op) (unary_at op a) not_built_at
 
   abbrev pub update_at : UpdateOp → Tree → At
-  update_at op t s zero kept g = update s 0 at op t
-  update_at op t s (suc n) kept g = valued_at s 0 g t (λ v. computed (step_number op v) (stored op (name_in t)))
+  update_at op t s zero kept g = update s at op t
+  update_at op t s (suc n) kept g = target s t (stepped s op t)
 
   -- at the charge of the target, and at the right side
   abbrev pub plain_at : Tree → Tree → At
-  plain_at t b s zero kept g = plain_assignment s 0 at t b
-  plain_at t b s (suc zero) kept g = begin s 0 t.from (valued s 0 b (put t))
-  plain_at t b s (suc (suc n)) kept g = valued_at s 0 g b (put t)
+  plain_at t b s zero kept g = plain_assignment s at t b
+  plain_at t b s (suc zero) kept g = target s t (put_right s t b)
+  plain_at t b s (suc (suc n)) kept g = valued_at s g b (put s t kept.base)
 
-  -- at the old value, and at the right side
+  -- at the target, at the right side, and where a string that was joined is paid
+  abbrev pub compound_at : BinaryOp → Tree → Tree → At
+  compound_at op t b s zero kept g = compound_assignment s at op t b
+  compound_at op t b s (suc zero) kept g = target s t (compound s op t b)
+  compound_at op t b s (suc (suc zero)) kept g = valued_at s g b (between op (put s t kept.base) (value_in kept.value))
+  compound_at op t b s (suc (suc (suc n))) kept g = kept_at kept.value (put s t kept.base)
+
+  -- at the target, and at the right side
   abbrev pub logical_assignment_at : LogicalOp → Tree → Tree → At
-  logical_assignment_at op t b s zero kept g = logical_assignment s 0 at op t b
-  logical_assignment_at op t b s (suc zero) kept g = valued_at s 0 g t (put_undecided s 0 op t b)
-  logical_assignment_at op t b s (suc (suc n)) kept g = valued_at s 0 g b (put t)
+  logical_assignment_at op t b s zero kept g = logical_assignment s at op t b
+  logical_assignment_at op t b s (suc zero) kept g = target s t (unless_decided s op t b)
+  logical_assignment_at op t b s (suc (suc n)) kept g = valued_at s g b (put s t kept.base)
 
   abbrev pub assignment_at : AssignOp → Tree → Tree → At
   assignment_at assign.Plain t b = plain_at t b
-  assignment_at (assign.Compound op) t b = both_at op t b (finish (Some t))
+  assignment_at (assign.Compound op) t b = compound_at op t b
   assignment_at (assign.Logical op) t b = logical_assignment_at op t b
 
   -- the arguments that are left, of which the first is under way
-  abbrev pub argument_at : ℕ → Given → Option Tree → List (Option Tree) → List Value → Steps
+  abbrev pub argument_at : Context → Given → Option Tree → List (Option Tree) → List Value → Steps
   argument_at s g None ts vs = throw_error
-  argument_at s g (Some t) ts vs = valued_at s 0 g t (λ v. arguments s 0 ts (vs ++ v ∷ []))
+  argument_at s g (Some t) ts vs = valued_at s g t (λ v. arguments s ts (vs ++ v ∷ []))
 
-  abbrev pub arguments_at : ℕ → Given → List Element → List Value → Steps
+  abbrev pub arguments_at : Context → Given → List Element → List Value → Steps
   arguments_at s g [] vs = throw_error
   arguments_at s g (x ∷ xs) vs = argument_at s g (expression_of x) (map expression_of xs) vs
 
   -- at the charge of the callee, and at stage n + 2 at the n-th argument
   abbrev pub call_at : Tree → List Element → At
-  call_at callee xs s zero kept g = call s 0 at callee (map expression_of xs)
-  call_at callee xs s (suc zero) kept g = begin s 0 callee.from (arguments s 0 (map expression_of xs) [])
+  call_at callee xs s zero kept g = call s at callee (map expression_of xs)
+  call_at callee xs s (suc zero) kept g = begin s callee.from (arguments s (map expression_of xs) [])
   call_at callee xs s (suc (suc n)) kept g = arguments_at s g (drop n xs) kept.list
 
   abbrev pub linked_at : Link → Tree → List Element → At

@@ -6,8 +6,9 @@ ghost use Rattle.sr_expr.specs.Stages.{call_at, linked_at};
 use crate::basic::not_built;
 use sqlite_items::Items;
 use sr_ast::{Element, Link, Tree};
+use sr_intrin::BuiltIn;
 use sr_shared::Shared;
-use sr_state::{BuiltIn, Next, Over, State, after, before, here};
+use sr_state::{Next, Over, State, after, before, here};
 
 /// What stands at a place of the arguments of a call.
 #[derive(Clone, Copy)]

@@ -3,11 +3,11 @@ ghost use Rattle.sr_state.specs.Ends.{Comes};
 ghost use Rattle.sr_state.specs.Step.{StepsBy};
 ghost use Rattle.sr_expr.specs.Stages.{expression_at};
 
-use crate::assign::assignment;
+use crate::assign::{assignment, update};
 use crate::basic::{literal, name, not_built, sequence};
 use crate::call::linked;
 use crate::choice::{condition, logical};
-use crate::operators::{Operands, operator, prefix, update};
+use crate::operators::{Operands, operator, prefix};
 use sr_ast::{Node, Tree};
 use sr_state::{Next, Over, State};
 use sr_value::Value;

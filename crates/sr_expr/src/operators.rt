@@ -1,15 +1,12 @@
-ghost use Rattle.std.specs.Option.{option_copied};
 ghost use Rattle.sr_state.specs.Ends.{Comes};
 ghost use Rattle.sr_state.specs.Step.{StepsBy};
-ghost use Rattle.sr_expr.specs.Stages.{finish, both_at, operator_at, unary_at, prefix_at, update_at};
+ghost use Rattle.sr_expr.specs.Stages.{binary_at, operator_at, unary_at, prefix_at};
 
-use crate::assign::{put, put_and_give};
 use crate::basic::not_built;
-use sr_ast::{BinaryOp, Tree, UnaryOp, UpdateOp};
-use sr_conv::{Computed, operate, operate_one, shown, step_number};
+use sr_ast::{BinaryOp, Tree, UnaryOp};
+use sr_conv::{operate, operate_one};
 use sr_shared::Shared;
-use sr_state::{Next, Over, State, StopName, before};
-use sr_value::Value;
+use sr_state::{Next, Over, State};
 
 /// Two operands of a tree that begins at a place.
 #[derive(Clone, Copy)]
@@ -23,41 +20,30 @@ pub struct Operands<'a> {
 }
 
 /// The stage at which a string that was joined is paid.
-const JOINED: u32 = 3;
+pub const JOINED: u32 = 3;
 
-/// An operator with both operands, from left to right (ECMA-262 13.15.4). The value is given to the target, where there is one.
-pub fn both(
-    state: &mut State,
-    op: BinaryOp,
-    pair: Operands<'_>,
-    target: Option<&Shared<Tree>>,
-) -> Result<Next, Over>
-    ensures { Comes result (λ next. StepsBy (both_at pair.entry.at op pair.entry.left.now pair.entry.right.now (finish (option_copied target.entry))) state.old next state.new) }
+/// An operator with both operands, from left to right (ECMA-262 13.15.4).
+fn binary(state: &mut State, op: BinaryOp, pair: Operands<'_>) -> Result<Next, Over>
+    ensures { Comes result (λ next. StepsBy (binary_at pair.entry.at op pair.entry.left.now pair.entry.right.now) state.old next state.new) }
 {
-    match before(state.stage()) {
-        None => state.begin_with(pair.at, pair.left),
-        Some(0) => {
+    match state.stage() {
+        0 => state.begin_with(pair.at, pair.left),
+        1 => {
             let x = state.resume_value(pair.left)?;
             state.keep(x);
             state.set_stage(2);
             state.begin_part(pair.right)
         }
-        Some(1) => {
+        2 => {
             let y = state.resume_value(pair.right)?;
             let x = state.take_value();
             let came = operate(state.alloc(), op, &x, &y)?;
             let value = state.operated(came, JOINED)?;
-            match target {
-                None => Ok(state.give(value)),
-                Some(target) => put(state, target, value),
-            }
+            Ok(state.give(value))
         }
-        Some(_) => {
+        _ => {
             let value = state.pay_kept()?;
-            match target {
-                None => Ok(state.give(value)),
-                Some(target) => put(state, target, value),
-            }
+            Ok(state.give(value))
         }
     }
 }
@@ -69,7 +55,7 @@ pub fn operator(state: &mut State, op: BinaryOp, pair: Operands<'_>) -> Result<N
 {
     match op {
         BinaryOp::InstanceOf | BinaryOp::In => not_built(state, pair.at),
-        _ => both(state, op, pair, None),
+        _ => binary(state, op, pair),
     }
 }
 
@@ -108,30 +94,5 @@ pub fn prefix(
     match op {
         UnaryOp::Delete => not_built(state, at),
         _ => unary(state, at, op, operand),
-    }
-}
-
-/// `++` or `--` of a name (ECMA-262 13.4): the old value is made a number, and the new one is given to the name.
-pub fn update(
-    state: &mut State,
-    at: usize,
-    op: UpdateOp,
-    target: &Shared<Tree>,
-) -> Result<Next, Over>
-    ensures { Comes result (λ next. StepsBy (update_at at op target.now) state.old next state.new) }
-{
-    match state.stage() {
-        0 => state.begin_with(at, target),
-        _ => {
-            let old = state.resume_value(target)?;
-            match step_number(op, &old) {
-                Computed::Is(n) => {
-                    let after = Value::Num(n.after);
-                    put_and_give(state, target, after, Value::Num(shown(op, n)))
-                }
-                Computed::Stops(stop) => Ok(Next::Halt(StopName::Number(stop))),
-                Computed::Fails => Ok(state.throw()),
-            }
-        }
     }
 }

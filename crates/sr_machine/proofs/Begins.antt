@@ -6,7 +6,6 @@ use Rattle.sr_model.specs.Outcomes as model
 use Rattle.sr_model.specs.Events.{Goal, Event, Source, Took}
 use Rattle.sr_model.specs.Realm.{fresh}
 use Rattle.sr_model.specs.World.{Write, World, Place, choose, with_event, fresh_slot, event}
-use Rattle.sr_model.specs.Globals.{Holds, born}
 use Rattle.sr_worlds.specs.Evaluation.{Done, follow, ev}
 use Rattle.sr_worlds.specs.Live.{LiveRan, live}
 use Rattle.sr_worlds.specs.LiveStacks.{live_owed, live_means}
@@ -22,16 +21,17 @@ use Rattle.sr_state.specs.declared.frame.Frame.{Frame}
 use Rattle.sr_state.specs.declared.ends.Answer.{Answer}
 use Rattle.sr_state.specs.declared.ends.Answer.TheVariants as answer
 use Rattle.sr_state.specs.declared.ends.Completion.{Completion}
+use Rattle.sr_state.specs.Contexts.{context_of}
 use Rattle.sr_state.specs.Ends.{completion_of}
 use Rattle.sr_state.specs.Held.{Held, is_idle}
 use Rattle.sr_state.specs.Step.{Given, Began, Ended, given_of, kept_of}
-use Rattle.sr_state.specs.Work.{Steps}
+use Rattle.sr_state.specs.Work.{Holds, Steps, born}
 use Rattle.sr_machine.specs.Language.{language, source_of}
 use Rattle.sr_machine.specs.Stages.{passed, at_of, script_of}
 use Rattle.sr_machine.specs.Worlds.{Tapes, world_of, place_of}
 use Rattle.sr_machine.specs.Stack.{waiting, above, comes, depths}
-use Rattle.sr_machine.specs.Going.{PaysFirst, Ready, AtRest, Under}
-use Rattle.sr_machine.specs.Running.{given, source_run, source_tapes, Begins, EndsAtRest, WritesFirst}
+use Rattle.sr_machine.specs.Going.{IsReady, Ready, AtRest, Under}
+use Rattle.sr_machine.specs.Running.{given, source_as, source_run, source_tapes, Begins, EndsAtRest, WritesFirst}
 use Rattle.sr_machine.proofs.Comes.{not_both}
 
 first_slot : (b : Bool) (q : Path) (e : Event) → choose b (with_event e (fresh_slot born root)) (fresh_slot born q) ≡ record { realm = choose b (fresh born root) (fresh born q); tape = choose b (e ∷ []) [] }
@@ -43,7 +43,7 @@ module _ (read : Text → Reading) (bound : ℕ) (goal : Goal) (name : Name) (te
   tapes = source_tapes goal name text
 
   abbrev held : Held
-  held = (given bound (source_of read text)).held
+  held = (given bound (source_as read text)).held
 
   first_world : event root (Took (Source goal name text)) (start (language read)) ≡ world_of tapes [] held
   first_world = (λ j. let w : World Holds = start (language read) in record w { slots = λ q. first_slot (same q root) q (Took (Source goal name text)) j })
@@ -52,7 +52,7 @@ module _ (read : Text → Reading) (bound : ℕ) (goal : Goal) (name : Name) (te
   first_same zero le = absurd (omega (arith, le))
   first_same (suc d) le =
       live_begins (language read) bound d root (Source goal name text) (start (language read)) refl
-      ∙ (λ i. live_means (language read) bound (top ((let e : d ≡ suc d - 1 = omega arith in e) i) (place_of held 0) (first_world i) (source (source_of read text)) []))
+      ∙ (λ i. live_means (language read) bound (top ((let e : d ≡ suc d - 1 = omega arith in e) i) (place_of held 0) (first_world i) (source text (source_of read text)) []))
 
 pub begins : Begins
 begins read bound goal name text = record {
@@ -69,10 +69,10 @@ idle_is a e = cc
 
 module _ (read : Text → Reading) (bound : ℕ) (z : Tapes) (meaning : ℕ → LiveRan Holds) (v : List Write) (h : Held) where
   idle_script : AtRest h → (g : Given) → script_of h.top g ≡ passed g
-  idle_script rest g = ap (λ (a : Activity). at_of a h.top.source h.top.stage (kept_of h.top) g) (idle_is h.top.activity rest)
+  idle_script rest g = ap (λ (a : Activity). at_of a (context_of h.top.context) h.top.stage (kept_of h.top) g) (idle_is h.top.activity rest)
 
   ends_by : (a : Answer) → h.answer ≡ a → AtRest h → Under read bound z meaning v h → (o : Completion) × (a ≡ answer.Done o) × (least : ℕ) × ((n : ℕ) → least ≤ n → meaning n ≡ Done (world_of z v h) (completion_of o))
-  ends_by answer.Empty is rest u = absurd (subst PaysFirst (idle_script rest Began) (let s = u.sound in subst (Ready h.top) is s.ready))
+  ends_by answer.Empty is rest u = absurd (subst IsReady (idle_script rest Began) (let s = u.sound in subst (Ready h.top) is s.ready))
   ends_by (answer.Done o) is rest u = (o, refl, u.least, λ n le. u.same n le ∙ ends u.offsets u.along n)
     where
       ends : (os : List ℕ) → length os ≡ suc (length h.frames) → (n : ℕ) → comes read bound z v h (depths os n) ≡ Done (world_of z v h) (completion_of o)

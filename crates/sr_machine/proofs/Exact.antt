@@ -2,13 +2,17 @@
 use Rattle.std.proofs.Common.{◌≡◌, refl, sym, ap, ◌∙◌, subst, ℕ, suc, ◌+◌, ◌-◌, ◌≤◌, true, false, List, Some, length, arith}
 use Rattle.sr_ast.specs.declared.tree.Tree.{Tree}
 use Rattle.sr_ast.specs.declared.reading.Reading.{Reading}
-use Rattle.sr_model.specs.Values.{Text}
-use Rattle.sr_model.specs.Outcomes.{Completion}
+use Rattle.sr_model.specs.Values.{Text, Value}
+use Rattle.sr_model.specs.Outcomes.{Completion, Normal}
 use Rattle.sr_model.specs.Realm.{Inner, Realm}
-use Rattle.sr_model.specs.Tasks.{Run}
+use Rattle.sr_model.specs.Tasks.{Context, Run}
 use Rattle.sr_model.specs.Scripts.{Look, Change, Part, Pay, Enter, then_follow, IsPlain}
 use Rattle.sr_model.specs.World.{Write, World, may_enter, put}
-use Rattle.sr_model.specs.Globals.{Holds, marked}
+use Rattle.sr_model.specs.Holds.{marked, store_in}
+use Rattle.sr_model.specs.Names.{Known, Has, Getter, NoValue, NotBound, value_of_name}
+use Rattle.sr_state.specs.Errors.{or_fail, value_or_failure}
+use Rattle.sr_state.specs.Trees.{give_value}
+use Rattle.sr_state.specs.Work.{Holds}
 use Rattle.sr_worlds.specs.Evaluation.{then_do}
 use Rattle.sr_worlds.specs.Live.{LiveRan, Steps, over, live_pay, live}
 use Rattle.sr_worlds.specs.LiveStacks.{LiveFrames, live_owed}
@@ -16,7 +20,7 @@ use Rattle.sr_worlds.specs.Stacks as stacks
 use Rattle.sr_worlds.proofs.StackSteps.{steps}
 use Rattle.sr_state.specs.Work as language
 use Rattle.sr_state.specs.Held.{Held, Side, realm_in, with_inner, with_steps, change_in, pay_in, room_in, table}
-use Rattle.sr_state.specs.Step.{Operand, Literal, Name, operand_of, end_of}
+use Rattle.sr_state.specs.Step.{Operand, Literal, Name, at_hand, operand_of, value_now}
 use Rattle.sr_machine.specs.Language.{language}
 use Rattle.sr_machine.specs.Worlds.{Tapes, Here, paths, path_at, world_in, place_in}
 use Rattle.sr_machine.specs.Stack.{waiting, above, depths}
@@ -34,9 +38,22 @@ pub record Course (old : Held) : Type 0 where
   pub along : length offsets ≡ length old.frames
   pub waits : Busy old.frames
 
-operand_plain : (a at : ℕ) (y : Operand) → IsPlain (operand_row a y at)
-operand_plain a at (Literal w) = tt
-operand_plain a at (Name text) = λ r. tt
+known_plain : (x : Text) (k : Known) → IsPlain (or_fail give_value (value_or_failure x k))
+known_plain x (Has v) = tt
+known_plain x (Getter g) = tt
+known_plain x NoValue = λ r. tt
+known_plain x NotBound = λ r. tt
+
+operand_plain : (c : Context) (at : ℕ) (y : Operand) → IsPlain (operand_row c y at)
+operand_plain c at (Literal w) = tt
+operand_plain c at (Name x) = λ r. known_plain x (value_of_name (store_in r) c.environment x)
+
+-- where a name has a value at hand, what follows goes on with it
+known_follows : (x : Text) (k : Known) (v : Value) (s : Completion → language.Steps) → at_hand k ≡ Some v → then_follow (or_fail give_value (value_or_failure x k)) s ≡ s (Normal (Some v))
+known_follows x (Has w) v s h = ap (λ o. s (Normal o)) h
+known_follows x (Getter g) v s h = cc
+known_follows x NoValue v s h = cc
+known_follows x NotBound v s h = cc
 
 module _ {old : Held} (m : Course old) where
   abbrev pub In : OfRun → Type 0
@@ -110,21 +127,25 @@ module _ {old : Held} (m : Course old) where
   refuses x k c j s room w = onward x x _ _ w.here (λ d n. rw room refl) w
 
   -- a literal or a name that is a part is evaluated in its place
-  pub in_place : (x : Side) (k a e : ℕ) (t : Tree) (y : Operand) → operand_of t ≡ Some y → (s : Completion → language.Steps) →
-      Still x (at x k (Part (Run a e t) s)) → Still x (at x k (Pay 0 (Change (marked a t.from) (then_follow (operand_script y) s))))
-  in_place x k a e t y is s w =
-      let same = operand_is m.read a e t y is in
+  pub in_place : (x : Side) (k : ℕ) (c : Context) (t : Tree) (y : Operand) → operand_of t ≡ Some y → (s : Completion → language.Steps) →
+      Still x (at x k (Part (Run c t) s)) → Still x (at x k (Pay 0 (Change (marked c.source t.from) (then_follow (operand_script c y) s))))
+  in_place x k c t y is s w =
+      let same = operand_is m.read c t y is in
       let all = steps (language m.read) (live (language m.read) old.outer.bound) (live_owed (language m.read) old.outer.bound) in
       record {
         here = w.here;
         offset = w.offset;
         least = w.offset + suc w.least;
         same = λ n le. w.same n (omega (arith, le))
-            ∙ subst (λ d. at x k (Part (Run a e t) s) d n ≡ at x k (then_follow (operand_row a y t.from) s) d n) (let e : suc (n - suc w.offset) ≡ n - w.offset = omega (arith, le) in e)
-            (all.in_place (n - suc w.offset) (place_in old.outer x k) (world x) (Run a e t) s (under x n) (subst IsPlain (sym same) (operand_plain a t.from y))
+            ∙ subst (λ d. at x k (Part (Run c t) s) d n ≡ at x k (then_follow (operand_row c y t.from) s) d n) (let e : suc (n - suc w.offset) ≡ n - w.offset = omega (arith, le) in e)
+            (all.in_place (n - suc w.offset) (place_in old.outer x k) (world x) (Run c t) s (under x n) (subst IsPlain (sym same) (operand_plain c t.from y))
             ∙ ap (λ j. at x k (then_follow j s) (suc (n - suc w.offset)) n) same);
       }
 
-  pub operand_follows : (x : Side) (k : ℕ) (y : Operand) (s : Completion → language.Steps) → Still x (at x k (then_follow (operand_script y) s)) → Still x (at x k (s (end_of y (realm_in x))))
-  operand_follows x k (Literal v) s w = w
-  operand_follows x k (Name text) s w = looks x k (λ r. s (end_of (Name text) r)) w
+  -- and what follows goes on with its value
+  pub operand_follows : (x : Side) (k : ℕ) (c : Context) (y : Operand) (v : Value) (s : Completion → language.Steps) → value_now c y (realm_in x) ≡ Some v →
+      Still x (at x k (then_follow (operand_script c y) s)) → Still x (at x k (s (Normal (Some v))))
+  operand_follows x k c (Literal u) v s e w = subst (λ o. Still x (at x k (s (Normal o)))) e w
+  operand_follows x k c (Name text) v s e w =
+      let f = λ (r : Realm Holds). then_follow (or_fail give_value (value_or_failure text (value_of_name (store_in r) c.environment text))) s in
+      subst (λ j. Still x (at x k j)) (known_follows text (value_of_name (store_in (realm_in x)) c.environment text) v s e) (looks x k f w)

@@ -5,7 +5,7 @@ use Rattle.sr_model.specs.Values.{Text, Path, root, same}
 use Rattle.sr_model.specs.Realm.{Inner, Realm}
 use Rattle.sr_model.specs.World.{Slot, Write, Printed, World, Place, choose, change, put, pay, print}
 use Rattle.sr_model.specs.World as worlds
-use Rattle.sr_model.specs.Globals.{Holds}
+use Rattle.sr_state.specs.Work.{Holds}
 use Rattle.sr_model.proofs.Same.{same_self, same_tells}
 use Rattle.sr_state.specs.Held.{Own, Side, Outer, Level, path_of, table, realm_in, inner_in, realm_as, with_inner, with_steps, with_line, change_in, pay_in, line_in}
 use Rattle.sr_machine.specs.Worlds.{Tapes, realm_at, paths, path_at, link_of, world_in, First, Here, place_in}

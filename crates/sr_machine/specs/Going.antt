@@ -1,16 +1,15 @@
 -- The loop over frames, against the one recursion.
-use Rattle.std.specs.Prelude.{◌≡◌, ◌⊎◌, ℕ, ◌≤◌, ◌<◌, ◌+◌, ◌-◌, ◌*◌, suc, Bool, true, false, List, [], ◌∷◌, ◌++◌, Option, None, Some, length}
+use Rattle.std.specs.Prelude.{◌≡◌, ◌⊎◌, ℕ, ◌≤◌, ◌<◌, ◌+◌, ◌-◌, ◌*◌, suc, Bool, true, false, List, [], ◌∷◌, ◌++◌, Option, None, Some, is_some, length}
 use Rattle.std.specs.Io.KnownBytes.{Appends}
 use Rattle.sr_outside.specs.Writing.{AppendsPart}
 use Rattle.sr_text.specs.Encoding.{utf8_of}
 use Rattle.sr_ast.specs.declared.reading.Reading.{Reading}
-use Rattle.sr_model.specs.Values.{Text}
+use Rattle.sr_model.specs.Values.{Text, Value}
 use Rattle.sr_model.specs.Outcomes.{Stop}
 use Rattle.sr_model.specs.Realm.{Realm}
 use Rattle.sr_model.specs.Tasks.{Run}
 use Rattle.sr_model.specs.Scripts.{Halt, Look, Change, Part, Pay, Enter}
 use Rattle.sr_model.specs.World.{Write, Printed}
-use Rattle.sr_model.specs.Globals.{Holds}
 use Rattle.sr_worlds.specs.Live.{Why, Stopped, Steps, LiveRan, over}
 use Rattle.sr_state.specs.declared.ends.Answer.{Answer}
 use Rattle.sr_state.specs.declared.ends.Answer.TheVariants as answer
@@ -20,8 +19,9 @@ use Rattle.sr_state.specs.declared.ends.StopName.TheVariants as stop
 use Rattle.sr_state.specs.declared.frame.Frame.{Frame}
 use Rattle.sr_state.specs.Ends.{IsStop}
 use Rattle.sr_state.specs.Held.{Held, Side, realm_in, line_in, with_side, answered, is_idle}
-use Rattle.sr_state.specs.Step.{Operand, operand_of, Began, given_of}
+use Rattle.sr_state.specs.Step.{operand_of, tree_now, Began, given_of}
 use Rattle.sr_state.specs.Work as language
+use Rattle.sr_state.specs.Work.{Holds}
 use Rattle.sr_machine.specs.Stages.{script_of}
 use Rattle.sr_machine.specs.Stack.{comes, depths}
 use Rattle.sr_machine.specs.Worlds.{Tapes, Here, world_of, place_of}
@@ -44,16 +44,16 @@ abbrev pub printed : Text → Held → Held
 printed text h = answered (answer.Done (completion.Normal None)) (with_side h (line_in text h.side))
 
 -- the charge with which a script begins, and 0 where it begins with none
-abbrev pub operand_charge : Option Operand → ℕ
-operand_charge None = 0
-operand_charge (Some z) = 1
+abbrev pub value_charge : Option Value → ℕ
+value_charge None = 0
+value_charge (Some v) = 1
 
 abbrev pub first_charge : language.Steps → Realm Holds → ℕ
 first_charge (Pay c s) r = suc c
 first_charge (Enter s) r = 1
 first_charge (Look f) r = first_charge (f r) r
 first_charge (Change f s) r = first_charge s (record r { inner = f r.inner })
-first_charge (Part (Run s e t) k) r = operand_charge (operand_of t)
+first_charge (Part (Run c t) k) r = value_charge (tree_now c t r)
 first_charge s r = 0
 
 -- a step pays nothing, or the first charge of the script of the frame on top
@@ -68,12 +68,16 @@ PaysFirst (Enter s) = Unit {0}
 PaysFirst (Halt x) = Unit {0}
 PaysFirst (Look f) = (r : Realm Holds) → PaysFirst (f r)
 PaysFirst (Change f s) = PaysFirst s
-PaysFirst (Part (Run s e t) k) = operand_charge (operand_of t) ≡ 1
 PaysFirst s = ⊥
 
--- where no answer waits, the frame on top pays next
+-- the same, or one that begins with a literal or a name, which pays next or gets a frame
+abbrev pub IsReady : language.Steps → Type 0
+IsReady (Part (Run c t) k) = is_some (operand_of t) ≡ true
+IsReady s = PaysFirst s
+
+-- where no answer waits, the frame on top is ready
 abbrev pub Ready : Frame → Answer → Type 0
-Ready f answer.Empty = PaysFirst (script_of f Began)
+Ready f answer.Empty = IsReady (script_of f Began)
 Ready f (answer.Done o) = Unit {0}
 
 -- none of these frames is idle
@@ -94,12 +98,16 @@ abbrev pub frames_weight : List Frame → ℕ
 frames_weight [] = 0
 frames_weight (f ∷ fs) = frame_weight (is_idle f.activity) + frames_weight fs
 
-abbrev pub answer_weight : Answer → ℕ
-answer_weight answer.Empty = 0
-answer_weight (answer.Done o) = 3
+abbrev pub part_weight : language.Steps → ℕ
+part_weight (Part t k) = 3
+part_weight s = 0
+
+abbrev pub answer_weight : Frame → Answer → ℕ
+answer_weight f answer.Empty = part_weight (script_of f Began)
+answer_weight f (answer.Done o) = 7
 
 abbrev pub left_of : Held → ℕ
-left_of h = 8 * (h.outer.bound - h.side.used) + frames_weight (h.top ∷ h.frames) + answer_weight h.answer
+left_of h = 8 * (h.outer.bound - h.side.used) + frames_weight (h.top ∷ h.frames) + answer_weight h.top h.answer
 
 -- the state of a run, whose realms are told apart, with this bound
 pub record Sound (bound : ℕ) (h : Held) : Type 0 where

@@ -1,12 +1,10 @@
 -- A run as contracts see it, and its steps.
 use Rattle.std.specs.Prelude.{◌≡◌, ℕ, ◌≤◌, [], ◌∷◌, Option, None, Some}
 use Rattle.sr_ast.specs.declared.reading.Reading.{Reading}
-use Rattle.sr_ast.specs.declared.reading.SourceCode.{SourceCode}
 use Rattle.sr_model.specs.Values.{Text, Name, root, same}
 use Rattle.sr_model.specs.Events.{Goal, Source, Took}
 use Rattle.sr_model.specs.Realm.{Realm}
 use Rattle.sr_model.specs.World.{choose}
-use Rattle.sr_model.specs.Globals.{Holds}
 use Rattle.sr_conv.specs.Plain.{value_of}
 use Rattle.sr_worlds.specs.Evaluation.{Done, ev}
 use Rattle.sr_worlds.specs.Laws.{IsStart}
@@ -14,6 +12,8 @@ use Rattle.sr_worlds.specs.Laws as laws
 use Rattle.sr_worlds.specs.Live.{LiveRan, live}
 use Rattle.sr_worlds.specs.Run.{give, start}
 use Rattle.sr_state.specs.declared.frame.Frame.{Frame}
+use Rattle.sr_state.specs.declared.frame.Source as code
+use Rattle.sr_state.specs.Work.{Holds}
 use Rattle.sr_state.specs.declared.frame.Activity.TheVariants as activity
 use Rattle.sr_state.specs.declared.ends.Answer.{Answer}
 use Rattle.sr_state.specs.declared.ends.Answer.TheVariants as answer
@@ -21,7 +21,7 @@ use Rattle.sr_state.specs.declared.ends.Completion.{Completion}
 use Rattle.sr_state.specs.declared.ends.Completion.TheVariants as completion
 use Rattle.sr_state.specs.Ends.{completion_of}
 use Rattle.sr_state.specs.declared.ends.Abrupt.TheVariants as abrupt
-use Rattle.sr_state.specs.Held.{Held, Side, first, realm_in, answered, topped}
+use Rattle.sr_state.specs.Held.{Held, Side, first, fresh_frame, no_source, realm_in, answered, topped}
 use Rattle.sr_machine.specs.declared.live.Ended.{Ended}
 use Rattle.sr_machine.specs.declared.live.Ended.TheVariants as ended
 use Rattle.sr_machine.specs.declared.live.Advance.{Advance}
@@ -41,15 +41,19 @@ abbrev pub opened : ℕ → Running
 opened bound = record { held = first bound; over = None }
 
 -- a frame that begins a source
-abbrev pub source_frame : SourceCode → Frame
-source_frame x = record { activity = activity.Source x; source = 0; stage = 0; calls = 0; value = None; list = [] }
+abbrev pub source_frame : code.Source → Frame
+source_frame x = fresh_frame (activity.Source x) no_source 0 []
 
 -- a run to which a source is given
-abbrev pub giving : SourceCode → Running → Running
+abbrev pub giving : code.Source → Running → Running
 giving x r = record r { held = topped (source_frame x) r.held }
 
-abbrev pub given : ℕ → SourceCode → Running
+abbrev pub given : ℕ → code.Source → Running
 given bound x = giving x (opened bound)
+
+-- a source of this text, and what that is as it is read
+abbrev pub source_as : (Text → Reading) → Text → code.Source
+source_as read text = record { text = text; code = source_of read text }
 
 -- what the first realm does with a text, by the depth to which tasks may be nested; and the tapes while it does
 abbrev pub source_run : (Text → Reading) → ℕ → Goal → Name → Text → ℕ → LiveRan Holds
@@ -61,7 +65,7 @@ source_tapes goal name text q = choose (same q root) (Took (Source goal name tex
 -- a run that was given a text is the state of what that comes to
 abbrev pub Begins : Type 0
 Begins = (read : Text → Reading) (bound : ℕ) (goal : Goal) (name : Name) (text : Text) →
-    Under read bound (source_tapes goal name text) (source_run read bound goal name text) [] (given bound (source_of read text)).held
+    Under read bound (source_tapes goal name text) (source_run read bound goal name text) [] (given bound (source_as read text)).held
 
 -- where nothing is under way, a run has come to an end, which is what is given
 abbrev pub EndsAtRest : Type 0

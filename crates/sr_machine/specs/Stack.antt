@@ -3,14 +3,13 @@ use Rattle.std.specs.Prelude.{ℕ, ◌-◌, List, [], ◌∷◌}
 use Rattle.sr_ast.specs.declared.reading.Reading.{Reading}
 use Rattle.sr_model.specs.Values.{Text}
 use Rattle.sr_model.specs.World.{Write, World, Place}
-use Rattle.sr_model.specs.Globals.{Holds}
 use Rattle.sr_worlds.specs.Live.{LiveRan, Short, over}
 use Rattle.sr_worlds.specs.Stacks.{Waits, top}
 use Rattle.sr_worlds.specs.LiveStacks.{LiveFrames, live_means}
 use Rattle.sr_state.specs.declared.frame.Frame.{Frame}
 use Rattle.sr_state.specs.Held.{Held}
 use Rattle.sr_state.specs.Step.{Ended, given_of}
-use Rattle.sr_state.specs.Work.{Work, Steps}
+use Rattle.sr_state.specs.Work.{Holds, Work, Steps}
 use Rattle.sr_machine.specs.Language.{language}
 use Rattle.sr_machine.specs.Stages.{script_of}
 use Rattle.sr_machine.specs.Worlds.{Tapes, world_of, place_of}

@@ -2,12 +2,13 @@
 use Rattle.sr_ast.specs.Layer.{layer_of}
 use Rattle.sr_ast.specs.declared.tree.Tree.{Tree}
 use Rattle.sr_model.specs.Scripts.{Give}
-use Rattle.sr_model.specs.Globals.{either}
+use Rattle.sr_model.specs.Holds.{either}
 use Rattle.sr_state.specs.declared.frame.Activity.{Activity}
 use Rattle.sr_state.specs.declared.frame.Activity.TheVariants as activity
 use Rattle.sr_state.specs.declared.frame.Frame.{Frame}
 use Rattle.sr_state.specs.declared.ends.Next.{Next}
 use Rattle.sr_state.specs.Held.{Held}
+use Rattle.sr_state.specs.Contexts.{context_of}
 use Rattle.sr_state.specs.Step.{At, Given, Began, Ended, kept_of, StepsWith, StepsBy, StepsAnywhere}
 use Rattle.sr_state.specs.Work.{Steps}
 use Rattle.sr_expr.specs.Stages.{expression_at}
@@ -32,7 +33,7 @@ at_of (activity.BuiltIn b) s n kept g = built_in_at b s n kept g
 
 -- the script that a frame stands for, by what it is given
 abbrev pub script_of : Frame → Given → Steps
-script_of f g = at_of f.activity f.source f.stage (kept_of f) g
+script_of f g = at_of f.activity (context_of f.context) f.stage (kept_of f) g
 
 -- from old, a step of the frame on top, which carries out this
 abbrev pub StepsOf : Activity → Held → Next → Held → Type 0

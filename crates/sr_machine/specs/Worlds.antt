@@ -5,9 +5,9 @@ use Rattle.sr_model.specs.Events.{Event}
 use Rattle.sr_model.specs.Realm.{Realm, fresh}
 use Rattle.sr_model.specs.World as worlds
 use Rattle.sr_model.specs.World.{Write, World, Place, choose}
-use Rattle.sr_model.specs.Globals.{Holds, born}
 use Rattle.sr_state.specs.declared.realm.Link.{Link}
 use Rattle.sr_state.specs.Held.{Own, Side, Outer, Held, path_of, table}
+use Rattle.sr_state.specs.Work.{Holds, born}
 
 -- the tape of each path
 abbrev pub Tapes : Type 0

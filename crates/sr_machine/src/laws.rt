@@ -1,11 +1,12 @@
 //! Which rows pay first, how a run begins, what is left where nothing is under way, and what was written. Each function here is a
 //! law: it does nothing, and its contract is proved.
 
-ghost use Rattle.std.specs.Prelude.{ℕ, List};
+ghost use Rattle.std.specs.Prelude.{List};
 ghost use Rattle.sr_ast.specs.declared.reading.SourceCode.{SourceCode};
 ghost use Rattle.sr_ast.specs.declared.tree.Tree.{Tree};
-ghost use Rattle.sr_model.specs.Values.{Value};
-ghost use Rattle.sr_state.specs.declared.frame.BuiltIn.{BuiltIn};
+ghost use Rattle.sr_model.specs.Values.{Text, Value};
+ghost use Rattle.sr_model.specs.Tasks.{Context};
+ghost use Rattle.sr_intrin.specs.declared.names.BuiltIn.{BuiltIn};
 ghost use Rattle.sr_stmt.specs.Rows.{source as source_row};
 ghost use Rattle.sr_call.specs.Rows.{built_in_row};
 ghost use Rattle.sr_machine.specs.Language.{tree_row};
@@ -13,12 +14,11 @@ ghost use Rattle.sr_machine.specs.Going.{PaysFirst};
 ghost use Rattle.sr_machine.specs.Running.{Begins, EndsAtRest, WritesFirst};
 
 /// The row of a tree, of a built-in function and of a source pays before it makes a part, prints a line, ends or becomes
-/// another task. Nothing is said of the turns of a loop. A row whose first part is a literal or a name counts as one that
-/// pays, since the step that begins with it pays its charge.
+/// another task. Nothing is said of the turns of a loop.
 pub fn each_row_pays_first()
-    ensures tree { (s e : ℕ) (t : Tree) → PaysFirst (tree_row s e t) }
+    ensures tree { (c : Context) (t : Tree) → PaysFirst (tree_row c t) }
     ensures built_in { (b : BuiltIn) (this : Value) (args : List Value) → PaysFirst (built_in_row b this args) }
-    ensures source { (x : SourceCode) → PaysFirst (source_row x) }
+    ensures source { (text : Text) (x : SourceCode) → PaysFirst (source_row text x) }
 {}
 
 /// A run that was given a text is the state of what the first realm does with that text.

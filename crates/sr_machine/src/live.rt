@@ -10,9 +10,10 @@ ghost use Rattle.sr_machine.specs.Running.{opened, giving, answer_of, thrown_in,
 use crate::reports::report;
 use crate::steps::step;
 use sqlite_items::Items;
-use sr_ast::SourceCode;
 use sr_outside::{Sink, WriteRefusal};
-use sr_state::{Abrupt, Activity, Answer, Completion, Frame, Next, State, StopName};
+use sr_state::{
+    Abrupt, Activity, Answer, Completion, Context, Frame, Next, Source, State, StopName,
+};
 use sr_text::Str;
 use std::alloc::{AllocError, Global};
 use std::marker::Model;
@@ -103,17 +104,12 @@ impl Live {
     }
 
     /// Gives the run a source to run.
-    pub fn give_source(&mut self, source: SourceCode)
+    pub fn give_source(&mut self, source: Source)
         ensures { self.new ≡ giving source self.old }
     {
-        self.state.replace_top(Frame {
-            activity: Activity::Source(source),
-            source: 0,
-            stage: 0,
-            calls: 0,
-            value: None,
-            list: Items::new(self.alloc),
-        });
+        let activity = Activity::Source(source);
+        let frame = Frame::new(activity, Context::no_source(), 0, Items::new(self.alloc));
+        self.state.replace_top(frame);
     }
 
     /// The report of the throw in which the source ended; none where it ended normally, or where that was told.

@@ -1,14 +1,15 @@
-ghost use Rattle.std.specs.Prelude.{◌≡◌, ◌++◌, suc, IfOk, codes};
+ghost use Rattle.std.specs.Prelude.{◌≡◌, ◌++◌, IfOk, codes};
 ghost use Rattle.sr_conv.specs.Plain.{value_of, symbol_of};
 ghost use Rattle.sr_conv.specs.Conversions.{number_text};
 ghost use Rattle.sr_conv.specs.Reports as spec;
-ghost use Rattle.sr_model.specs.Globals.{error_in};
-ghost use Rattle.sr_state.specs.Errors.{name_text};
-ghost use Rattle.sr_state.specs.Held.{realm_in};
-ghost use Rattle.sr_machine.specs.Language.{error_report, throw_report};
+ghost use Rattle.sr_value.specs.Live.{IsLiveValue};
+ghost use Rattle.sr_realm.specs.Reports.{object_report};
+ghost use Rattle.sr_state.specs.Held.{extent_in, realm_in, stored_in};
+ghost use Rattle.sr_machine.specs.Language.{throw_report};
 
 use sr_num::Num;
-use sr_state::{ErrorName, State};
+use sr_realm::object_report;
+use sr_state::State;
 use sr_text::Str;
 use sr_value::{Symbol, Value, WellKnown};
 use std::alloc::{AllocError, Global};
@@ -59,33 +60,10 @@ fn symbol_units(alloc: Global, symbol: &Symbol) -> Result<Vec<u16>, AllocError>
     Ok(units)
 }
 
-/// The name of an error.
-fn error_name(name: ErrorName) -> &'static str
-    ensures { result.now ≡ name_text name }
-{
-    match name {
-        ErrorName::Syntax => "SyntaxError",
-    }
-}
-
-/// All code units that would be told of the object at a place, counted from 0.
-fn object_units(alloc: Global, state: &State, place: usize) -> Result<Vec<u16>, AllocError>
-    ensures { IfOk result (λ units. units.items ≡ error_report (error_in (realm_in state.now.side) (suc place))) }
-{
-    match state.error(place) {
-        None => letters(alloc, b"object"),
-        Some(error) => {
-            let mut units = letters(alloc, error_name(error.name).as_bytes())?;
-            units.extend_from_slice(&letters(alloc, b": ")?)?;
-            units.extend_from_slice(error.message.units())?;
-            Ok(units)
-        }
-    }
-}
-
 /// All code units that would be told of a value.
 fn units_of(alloc: Global, state: &State, value: &Value) -> Result<Vec<u16>, AllocError>
-    ensures { IfOk result (λ units. units.items ≡ spec.value_report (λ n. error_report (error_in (realm_in state.now.side) n)) (value_of value.now)) }
+    requires { IsLiveValue (extent_in state.now.side) value.now }
+    ensures { IfOk result (λ units. units.items ≡ spec.value_report (object_report (let s = stored_in state.now.side in s.objects)) (value_of value.now)) }
 {
     match value {
         Value::Undefined => letters(alloc, b"undefined"),
@@ -95,13 +73,14 @@ fn units_of(alloc: Global, state: &State, value: &Value) -> Result<Vec<u16>, All
         Value::Num(n) => number_units(alloc, *n),
         Value::Str(text) => Vec::from_slice(alloc, text.units()),
         Value::Sym(symbol) => symbol_units(alloc, symbol),
-        Value::Obj(object) => object_units(alloc, state, object.place()),
+        Value::Obj(object) => object_report(alloc, state.heap(), object),
     }
 }
 
 /// What is told of a value that was thrown and not caught: at most its first 16,777,216 code units.
 #[tactic(auto, unfolding(sr_conv::specs::Reports::report))]
 pub(crate) fn report(alloc: Global, state: &State, value: &Value) -> Result<Str, AllocError>
+    requires { IsLiveValue (extent_in state.now.side) value.now }
     ensures { IfOk result (λ text. text ≡ throw_report (realm_in state.now.side) (value_of value.now)) }
 {
     let units = units_of(alloc, state, value)?;

@@ -6,12 +6,13 @@ use Rattle.sr_value.specs.declared.value.Value.TheVariants as value
 use Rattle.sr_model.specs.Values as model
 use Rattle.sr_model.specs.Outcomes.{Stop}
 use Rattle.sr_model.specs.World.{may_enter}
-use Rattle.sr_model.specs.Outcomes as model_ends
 use Rattle.sr_conv.specs.Plain.{value_of, option_of}
 use Rattle.sr_conv.specs.Operators.{Operated, Gives, Joins, Halts, Rejects}
+use Rattle.sr_model.specs.Holds.{next_object}
+use Rattle.sr_realm.specs.Errors.{ErrorParts, with_error, type_error}
+use Rattle.sr_intrin.specs.declared.names.BuiltIn.{BuiltIn}
 use Rattle.sr_state.specs.declared.frame.Frame.{Frame}
 use Rattle.sr_state.specs.declared.frame.Activity.TheVariants as activity
-use Rattle.sr_state.specs.declared.frame.BuiltIn.{BuiltIn}
 use Rattle.sr_state.specs.declared.ends.Abrupt.{Abrupt}
 use Rattle.sr_state.specs.declared.ends.Abrupt.TheVariants as abrupt
 use Rattle.sr_state.specs.declared.ends.Completion.{Completion}
@@ -22,11 +23,13 @@ use Rattle.sr_state.specs.declared.ends.Next.TheVariants as next
 use Rattle.sr_state.specs.declared.ends.Over.{Over}
 use Rattle.sr_state.specs.declared.ends.Over.TheVariants as over
 use Rattle.sr_state.specs.declared.ends.StopName.TheVariants as stop
-use Rattle.sr_state.specs.declared.parts.Operand as code
-use Rattle.sr_state.specs.declared.parts.Operand.TheVariants as told
-use Rattle.sr_state.specs.Ends.{completion_of, HaltsBy}
-use Rattle.sr_state.specs.Held.{Held, Side, fresh_frame, realm_in, pay_in, begun_in, room_in, cut_in, with_side, answered, staged, keeping, topped, deeper, above}
-use Rattle.sr_state.specs.Step.{Operand, Literal, Name, operand_of, end_of}
+use Rattle.sr_model.specs.Names.{Known, Write, write, write_answer}
+use Rattle.sr_realm.specs.Plain as plain
+use Rattle.sr_state.specs.Errors.{Raises, NotBuilt, value_or_failure, write_or_failure}
+use Rattle.sr_state.specs.Contexts.{context_of}
+use Rattle.sr_state.specs.Ends.{HaltsBy}
+use Rattle.sr_state.specs.Held.{Held, Side, fresh_frame, no_source, store_as, stored_in, realm_in, pay_in, begun_in, room_in, cut_in, with_side, answered, staged, keeping, topped, deeper, above}
+use Rattle.sr_state.specs.Step.{Operand, operand_of, tree_now}
 use Rattle.sr_state.specs.Trees.{value_in, text_in, text_limit, text_cost}
 
 -- the bound has room for a charge, and no cut is next
@@ -70,7 +73,7 @@ Enters old (Err n) new = Starts old (Err n) new ⊎ ((old.answer ≡ answer.Empt
 
 -- a frame of a part of what a frame carries out
 abbrev pub part_frame : Tree → Frame → Frame
-part_frame t f = fresh_frame (activity.Tree t) f.source f.calls []
+part_frame t f = fresh_frame (activity.Tree t) f.context f.calls []
 
 -- such a frame above the one on top, and in its place
 abbrev pub part_begun : Tree → Held → Held
@@ -79,34 +82,27 @@ part_begun t h = above (part_frame t h.top) h
 abbrev pub Becomes : Tree → Held → Next → Held → Type 0
 Becomes t old n new = (n ≡ next.Going) × (new ≡ topped (part_frame t old.top) old)
 
--- the state once an operand of the frame on top has paid its step
+-- the state once a literal or a name of the frame on top has paid its step
 abbrev pub operand_paid : Tree → Held → Held
-operand_paid t h = (let f = h.top in with_side h (begun_in f.source t.from h.side))
+operand_paid t h = (let f = h.top in with_side h (let c = f.context in begun_in c.source t.from h.side))
 
--- the end of an operand there
-abbrev pub operand_end : Operand → Tree → Held → model_ends.Completion
-operand_end z t h = (let g = operand_paid t h in end_of z (realm_in g.side))
+-- the value that a tree has now, in the context of the frame on top
+abbrev pub value_now : Tree → Held → Option model.Value
+value_now t h = (let f = h.top in tree_now (context_of f.context) t (realm_in h.side))
 
--- what came of an operand that begins a step: it has a value, or it could not pay or has none
-abbrev pub Evaluates : Operand → Tree → Held → Result (Option Value) Over → Held → Type 0
-Evaluates z t old (Ok v) new = IsPayable 1 old × (completion_of (completion.Normal v) ≡ operand_end z t old) × (new ≡ operand_paid t old)
-Evaluates z t old (Err (over.Next n)) new =
-    (IsRefused 1 old n × (new ≡ old))
-    ⊎ ((x : Abrupt) × IsPayable 1 old × (n ≡ next.Ended) × (completion_of (completion.Abrupt x) ≡ operand_end z t old) × (new ≡ answered (answer.Done (completion.Abrupt x)) (operand_paid t old)))
-Evaluates z t old (Err over.Memory) new = Unit {0}
-
--- what came of a part that begins: it is an operand, or a frame was made for it
-abbrev pub Opens : Tree → Held → Result (Option Value) Over → Held → Type 0
-Opens t old (Ok v) new = (z : Operand) × (operand_of t ≡ Some z) × Evaluates z t old (Ok v) new
+-- what came of a part that begins a step: one that has a value now pays its step, and for any other a frame is made
+abbrev pub Opens : Tree → Held → Result Value Over → Held → Type 0
+Opens t old (Ok v) new = (value_now t old ≡ Some (value_of v)) × IsPayable 1 old × (new ≡ operand_paid t old)
 Opens t old (Err (over.Next n)) new =
-    ((operand_of t ≡ None) × (n ≡ next.Going) × (new ≡ part_begun t old))
-    ⊎ ((z : Operand) × (operand_of t ≡ Some z) × Evaluates z t old (Err (over.Next n)) new)
+    ((value_now t old ≡ None) × (n ≡ next.Going) × (new ≡ part_begun t old))
+    ⊎ ((v : model.Value) × (value_now t old ≡ Some v) × IsRefused 1 old n × (new ≡ old))
 Opens t old (Err over.Memory) new = Unit {0}
 
 -- what came of a part: it had ended, or it begins
 abbrev pub Resumes : Tree → Held → Result (Option Value) Over → Held → Type 0
 Resumes t old (Ok v) new =
-    ((old.answer ≡ answer.Done (completion.Normal v)) × (new ≡ emptied old)) ⊎ ((old.answer ≡ answer.Empty) × Opens t (emptied old) (Ok v) new)
+    ((old.answer ≡ answer.Done (completion.Normal v)) × (new ≡ emptied old))
+    ⊎ ((w : Value) × (v ≡ Some w) × (old.answer ≡ answer.Empty) × Opens t (emptied old) (Ok w) new)
 Resumes t old (Err (over.Next n)) new =
     ((x : Abrupt) × (old.answer ≡ answer.Done (completion.Abrupt x)) × (n ≡ next.Ended) × (new ≡ answered (answer.Done (completion.Abrupt x)) old))
     ⊎ ((old.answer ≡ answer.Empty) × Opens t (emptied old) (Err (over.Next n)) new)
@@ -126,9 +122,9 @@ BeginsPart t old n new =
 -- the charge of a tree, and its first part, at which the frame is at stage 1
 abbrev pub BeginsWith : ℕ → Tree → Held → Next → Held → Type 0
 BeginsWith at t old n new =
-    (let f = old.top in
-    Paying 1 (begun_in f.source at) old (Err n) new
-    ⊎ ((mid : Held) × Paying 1 (begun_in f.source at) old (Ok tt) mid × BeginsPart t (staged 1 mid) n new))
+    (let f = old.top in let c = f.context in
+    Paying 1 (begun_in c.source at) old (Err n) new
+    ⊎ ((mid : Held) × Paying 1 (begun_in c.source at) old (Ok tt) mid × BeginsPart t (staged 1 mid) n new))
 
 -- the end of the frame on top
 abbrev pub EndsWith : Completion → Held → Next → Held → Type 0
@@ -138,10 +134,39 @@ EndsWith o old n new = (n ≡ next.Ended) × (new ≡ answered (answer.Done o) o
 abbrev pub no_error : Completion
 no_error = completion.Abrupt (abrupt.Throw value.Undefined)
 
--- an operand of the code
-abbrev pub operand_told : code.Operand → Operand
-operand_told (told.Literal v) = Literal (value_of v)
-operand_told (told.Name x) = Name x.now
+-- the frame on top ends by the throw of a new error
+abbrev pub Throws : ErrorParts → Held → Next → Held → Type 0
+Throws e old n new =
+    (v : Value) × (value_of v ≡ model.Object (next_object (realm_in old.side)))
+    × EndsWith (completion.Abrupt (abrupt.Throw v)) (with_side old (store_as (with_error e (stored_in old.side)) old.side)) n new
+
+-- a name gave a value; or the frame on top ended, since it has none that is at hand
+abbrev pub Uses : model.Text → Known → Held → Result Value Over → Held → Type 0
+Uses x k old (Ok v) new = (value_or_failure x k ≡ Ok (value_of v)) × (new ≡ old)
+Uses x k old (Err (over.Next n)) new =
+    ((e : ErrorParts) × (value_or_failure x k ≡ Err (Raises e)) × Throws e old n new)
+    ⊎ ((value_or_failure x k ≡ Err NotBuilt) × EndsWith no_error old n new)
+Uses x k old (Err over.Memory) new = Unit {0}
+
+-- a name took a value; or the frame on top ended, since it takes none
+abbrev pub Checks : model.Text → Write → Held → Result (Unit {0}) Over → Held → Type 0
+Checks x w old (Ok u) new = (write_or_failure x w ≡ Ok tt) × (new ≡ old)
+Checks x w old (Err (over.Next n)) new =
+    ((e : ErrorParts) × (write_or_failure x w ≡ Err (Raises e)) × Throws e old n new)
+    ⊎ ((write_or_failure x w ≡ Err NotBuilt) × EndsWith no_error old n new)
+Checks x w old (Err over.Memory) new = Unit {0}
+
+-- the state after a write of a name that is bound where the frame on top keeps it, and what comes of the write
+abbrev pub written_in : model.Text → Value → Held → Held
+written_in x v h = (let f = h.top in let c = f.context in with_side h (store_as (write c.strict (stored_in h.side) (plain.base_of f.base) x (value_of v)) h.side))
+
+abbrev pub answer_in : model.Text → Value → Held → Write
+answer_in x v h = (let f = h.top in let c = f.context in write_answer c.strict (stored_in h.side) (plain.base_of f.base) x (value_of v))
+
+-- the name has the value now; or the frame on top ended, since the name does not take it
+abbrev pub PutsName : model.Text → Value → Held → Result (Unit {0}) Over → Held → Type 0
+PutsName x v old (Ok u) new = (write_or_failure x (answer_in x v old) ≡ Ok tt) × (new ≡ written_in x v old)
+PutsName x v old (Err e) new = Checks x (answer_in x v old) (written_in x v old) (Err e) new
 
 -- what a string of so many code units costs: one step more than this number, or none
 abbrev pub IsCost : ℕ → Option ℕ → Type 0
@@ -164,7 +189,7 @@ PaysFor units old (Err n) new =
 -- to be paid
 abbrev pub Fails : ℕ → Operated → Held → Next → Held → Type 0
 Fails stage w old n new =
-    ((w ≡ Rejects) × EndsWith no_error old n new)
+    ((w ≡ Rejects) × Throws type_error old n new)
     ⊎ (((y : Stop) × (w ≡ Halts y) × HaltsBy n y × (new ≡ old))
     ⊎ (((s t : model.Text) × (w ≡ Joins s t) × (nat_le (length (s ++ t)) text_limit ≡ false) × (n ≡ next.Halt stop.StringLength) × (new ≡ old))
     ⊎ ((s t : model.Text) × (w ≡ Joins s t) × (nat_le (length (s ++ t)) text_limit ≡ true) × Makes stage (s ++ t) old (Err n) new)))
@@ -192,4 +217,4 @@ PaysKept old (Err n) new = PaysFor (length (text_in (kept_in old))) old (Err n) 
 
 -- the frame on top goes on as a call of a built-in function
 abbrev pub performing : BuiltIn → Held → Held
-performing b h = (let f = h.top in topped (fresh_frame (activity.BuiltIn b) 0 f.calls f.list) h)
+performing b h = (let f = h.top in topped (fresh_frame (activity.BuiltIn b) no_source f.calls f.list) h)

@@ -3,12 +3,14 @@ use Rattle.std.specs.Prelude.{ℕ, zero, suc, ◌/◌, nat_le, ◌++◌, [], len
 use Rattle.sr_ast.specs.declared.tree.Tree.{Tree}
 use Rattle.sr_model.specs.Values.{Text, Value, Simple, Undefined, Str}
 use Rattle.sr_model.specs.Outcomes.{Completion, Normal, Abrupt, Throw, StringLength}
-use Rattle.sr_model.specs.Tasks.{Run}
+use Rattle.sr_model.specs.Tasks.{Context, Run}
 use Rattle.sr_model.specs.Scripts.{Give, Halt, Change, Part, Pay, pay, or_abrupt, part}
-use Rattle.sr_model.specs.Globals.{marked, either}
+use Rattle.sr_model.specs.Holds.{marked, either}
 use Rattle.sr_conv.specs.Computed as outcome
 use Rattle.sr_conv.specs.Operators as operators
 use Rattle.sr_state.specs.Work.{Steps}
+use Rattle.sr_realm.specs.Errors.{type_error}
+use Rattle.sr_state.specs.Errors.{throw_new}
 use Rattle.sr_state.specs.Step.{Given, Began, Ended}
 
 -- the value of an end; an empty one counts as undefined
@@ -25,7 +27,7 @@ with_value k o = Give o
 abbrev pub give_value : Value → Steps
 give_value v = Give (Normal (Some v))
 
--- Where an error object would be thrown, which is not built, the value undefined is thrown.
+-- What no frame comes to, and what is not built, throws the value undefined.
 abbrev pub throw_error : Steps
 throw_error = Give (Abrupt (Throw (Simple Undefined)))
 
@@ -44,14 +46,14 @@ made text k = either (nat_le (length text) text_limit) (pay (text_cost text) k) 
 abbrev pub computed : {A : Type 0} → outcome.Computed A → (A → Steps) → Steps
 computed (outcome.Is x) k = k x
 computed (outcome.Stops stop) k = Halt stop
-computed outcome.Fails k = throw_error
+computed outcome.Fails k = throw_new type_error
 
 -- goes on with what an operator comes to; a string that it joins is made
 abbrev pub operated : operators.Operated → (Value → Steps) → Steps
 operated (operators.Gives v) k = k v
 operated (operators.Joins s t) k = made (s ++ t) (k (Simple (Str (s ++ t))))
 operated (operators.Halts stop) k = Halt stop
-operated operators.Rejects k = throw_error
+operated operators.Rejects k = throw_new type_error
 
 -- the text that a value is
 abbrev pub text_in : Value → Text
@@ -66,19 +68,19 @@ paid_at (suc c) k = Pay c k
 abbrev pub kept_at : Option Value → (Value → Steps) → Steps
 kept_at v k = paid_at (text_cost (text_in (value_in v))) (k (value_in v))
 
--- trees of a source, in an environment
-module _ (source environment : ℕ) where
+-- trees in a context
+module _ (c : Context) where
   -- the charge of a tree that begins at this place, as its evaluation begins
   abbrev pub begin : ℕ → Steps → Steps
-  begin at k = Pay 0 (Change (marked source at) k)
+  begin at k = Pay 0 (Change (marked c.source at) k)
 
   -- a part, and its end
   abbrev pub evaluated : Tree → (Option Value → Steps) → Steps
-  evaluated t k = part (Run source environment t) k
+  evaluated t k = part (Run c t) k
 
   -- a part, and its value
   abbrev pub valued : Tree → (Value → Steps) → Steps
-  valued t k = Part (Run source environment t) (with_value k)
+  valued t k = Part (Run c t) (with_value k)
 
   -- the same by what a frame is given: the part has not begun, or this is its end
   abbrev pub evaluated_at : Given → Tree → (Option Value → Steps) → Steps

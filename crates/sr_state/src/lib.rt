@@ -4,12 +4,8 @@
 
 /// How parts and steps end.
 mod ends;
-/// Error objects.
-mod errors;
 /// Frames.
 mod frame;
-/// The names of the global object.
-mod globals;
 /// Parts, payments and ends, as the rows need them.
 mod parts;
 /// What joins realms.
@@ -20,8 +16,7 @@ mod stages;
 mod state;
 
 pub use ends::{Abrupt, Answer, Completion, Leaving, Next, Over, StopName};
-pub use errors::{ErrorName, ErrorObject, syntax_message};
-pub use frame::{Activity, BuiltIn, Frame};
+pub use frame::{Activity, Context, Frame, Source};
 pub use parts::string_cost;
 pub use realm::Link;
 pub use stages::{after, before, here};

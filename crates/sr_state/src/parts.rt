@@ -1,55 +1,54 @@
-ghost use Rattle.std.specs.Prelude.{◌≡◌, ◌++◌, length, Option, Some, is_some, option_map, IfOk, OnOk};
+ghost use Rattle.std.specs.Prelude.{◌≡◌, ◌++◌, length, Some, is_some, IfOk, IfSome, OnOk};
 ghost use Rattle.sr_conv.specs.Plain.{value_of, option_of};
-ghost use Rattle.sr_conv.specs.Answers.{operated_of};
+ghost use Rattle.sr_conv.specs.Answers.{GivesPrimitive, operated_of};
+ghost use Rattle.sr_value.specs.Live.{Extent, IsLiveValue};
+ghost use Rattle.sr_realm.specs.Errors.{type_error};
+ghost use Rattle.sr_realm.specs.Live.{IsLiveKnown};
+ghost use Rattle.sr_realm.specs.Plain.{known_of, write_of};
+ghost use Rattle.sr_state.specs.Live.{IsLiveEnd};
+ghost use Rattle.sr_state.specs.Step as step;
 ghost use Rattle.sr_conv.specs.Operators.{Joins};
 ghost use Rattle.sr_state.specs.declared.ends.Completion.TheVariants as completion;
 ghost use Rattle.sr_state.specs.Trees.{value_in, text_in};
 ghost use Rattle.sr_state.specs.Ends.{Comes};
-ghost use Rattle.sr_state.specs.Held.{pay_in, begun_in, keeping};
+ghost use Rattle.sr_state.specs.Held.{extent_in, pay_in, begun_in, keeping};
 ghost use Rattle.sr_state.specs.Step.{operand_of};
-ghost use Rattle.sr_state.specs.Parts.{Starts, Paying, Enters, Evaluates, Opens, Resumes, ResumesValue, BeginsPart, BeginsWith, Becomes, EndsWith, Makes, Operates, IsCost, no_error, operand_told, part_begun, kept_in, PaysFor, PaysKept, performing};
+ghost use Rattle.sr_state.specs.Parts.{Starts, Paying, Enters, Opens, Resumes, ResumesValue, BeginsPart, BeginsWith, Becomes, EndsWith, Makes, Operates, Checks, IsCost, PutsName, Throws, Uses, no_error, value_now, part_begun, kept_in, PaysFor, PaysKept, performing};
 
 use crate::ends::{Abrupt, Answer, Completion, Next, Over, StopName};
-use crate::frame::{Activity, BuiltIn, Frame};
+use crate::frame::{Activity, Context, Frame};
 use crate::state::State;
 use sqlite_items::Items;
 use sr_ast::{Code, Node, Tree};
 use sr_conv::Operated;
+use sr_intrin::{BuiltIn, ErrorName};
+use sr_realm::{
+    Known, Write, constant_message, type_message, undefined_message, uninitialized_message,
+};
 use sr_shared::Shared;
 use sr_text::{MAX_UNITS, Str};
 use sr_value::Value;
 use std::alloc::{AllocError, Global};
 
+/// The value that a name has, if it has one that is at hand.
+fn at_hand(known: Known) -> Option<Value>
+    ensures same { option_of result ≡ step.at_hand (known_of known) }
+    ensures live { (e : Extent) → IsLiveKnown e known → IfSome result (IsLiveValue e) }
+{
+    match known {
+        Known::Has(value) => Some(value),
+        Known::Getter(_) | Known::NoValue | Known::NotBound => None,
+    }
+}
+
 /// The value of an end; an empty one counts as undefined.
 fn value_or_undefined(value: Option<Value>) -> Value
-    ensures { value_of result ≡ value_in (option_of value) }
+    ensures same { value_of result ≡ value_in (option_of value) }
+    ensures live { (e : Extent) → IfSome value (IsLiveValue e) → IsLiveValue e result }
 {
     match value {
         Some(value) => value,
         None => Value::Undefined,
-    }
-}
-
-/// A literal or a name.
-#[derive(Debug, Drop)]
-enum Operand<'a> {
-    /// The value of a literal.
-    Literal(Value),
-    /// A name.
-    Name(&'a Str),
-}
-
-/// What a tree is as an operand, where it is a literal or a name.
-fn operand_in(tree: &Tree) -> Result<Option<Operand<'_>>, AllocError>
-    ensures { IfOk result (λ o. option_map operand_told o ≡ operand_of tree.now) }
-{
-    match &tree.node {
-        Node::Null => Ok(Some(Operand::Literal(Value::Null))),
-        Node::Bool(truth) => Ok(Some(Operand::Literal(Value::Bool(*truth)))),
-        Node::Num(number) => Ok(Some(Operand::Literal(Value::Num(*number)))),
-        Node::Text(text) => Ok(Some(Operand::Literal(Value::Str(text.clone()?)))),
-        Node::Name(name) => Ok(Some(Operand::Name(name))),
-        _ => Ok(None),
     }
 }
 
@@ -87,7 +86,7 @@ impl State {
     /// is over.
     #[inline(always)]
     pub fn begin(&mut self, at: usize) -> Result<(), Next>
-        ensures { Paying 1 (begun_in self.old.top.source at) self.old result self.new }
+        ensures { Paying 1 (begun_in self.old.top.context.source at) self.old result self.new }
     {
         self.start()?;
         self.spend_at(at)
@@ -121,44 +120,50 @@ impl State {
     {
         let code = Activity::Tree(Code::new(part)?);
         let top = self.top();
-        let frame = Frame::new(code, top.source, top.calls, Items::new(self.alloc()));
+        let frame = Frame::new(code, top.context, top.calls, Items::new(self.alloc()));
         self.replace_top(frame);
         Ok(Next::Going)
     }
 
-    /// Evaluates an operand that begins a step.
-    fn evaluate(&mut self, operand: Operand<'_>, tree: &Tree) -> Result<Option<Value>, Over>
-        ensures { Evaluates (operand_told operand.entry) tree.now self.old result self.new }
+    /// The value that a tree has now, where it is a literal or a name that has one.
+    fn value_now(&self, tree: &Tree) -> Result<Option<Value>, AllocError>
+        ensures same { IfOk result (λ v. option_of v ≡ value_now tree.now self.now) }
+        ensures live { IfOk result (λ v. IfSome v (IsLiveValue (extent_in self.now.side))) }
     {
-        self.spend_at(tree.from)?;
-        match operand {
-            Operand::Literal(value) => Ok(Some(value)),
-            Operand::Name(name) => match self.global(name)? {
-                Some(value) => Ok(Some(value)),
-                None => Err(Over::Next(self.throw())),
-            },
+        match &tree.node {
+            Node::Null => Ok(Some(Value::Null)),
+            Node::Bool(truth) => Ok(Some(Value::Bool(*truth))),
+            Node::Num(number) => Ok(Some(Value::Num(*number))),
+            Node::Text(text) => Ok(Some(Value::Str(text.clone()?))),
+            Node::Name(name) => Ok(at_hand(self.name(name)?)),
+            _ => Ok(None),
         }
     }
 
-    /// Begins a part: a literal or a name is evaluated, and for any other a frame is made.
-    fn open(&mut self, part: &Shared<Tree>) -> Result<Option<Value>, Over>
-        ensures { Opens part.now self.old result self.new }
+    /// Begins a part: one that has a value now pays its step, and for any other a frame is made.
+    fn open(&mut self, part: &Shared<Tree>) -> Result<Value, Over>
+        ensures opens { Opens part.now self.old result self.new }
+        ensures live { IfOk result (IsLiveValue (extent_in self.new.side)) }
     {
-        match operand_in(part.get())? {
+        match self.value_now(part.get())? {
             None => {
                 self.push_part(part)?;
                 Err(Over::Next(Next::Going))
             }
-            Some(operand) => self.evaluate(operand, part.get()),
+            Some(value) => {
+                self.spend_at(part.get().from)?;
+                Ok(value)
+            }
         }
     }
 
     /// The end of a part as the step begins, where it ended normally: where it has not begun, it begins.
     pub fn resume(&mut self, part: &Shared<Tree>) -> Result<Option<Value>, Over>
-        ensures { Resumes part.now self.old result self.new }
+        ensures resumes { Resumes part.now self.old result self.new }
+        ensures live { IfOk result (λ v. IfSome v (IsLiveValue (extent_in self.new.side))) }
     {
         match self.take_answer() {
-            Answer::Empty => self.open(part),
+            Answer::Empty => Ok(Some(self.open(part)?)),
             Answer::Done(Completion::Normal(value)) => Ok(value),
             Answer::Done(Completion::Abrupt(abrupt)) => {
                 self.put_answer(Answer::Done(Completion::Abrupt(abrupt)));
@@ -169,7 +174,8 @@ impl State {
 
     /// The value of a part as the step begins: where the part has not begun, it begins.
     pub fn resume_value(&mut self, part: &Shared<Tree>) -> Result<Value, Over>
-        ensures { ResumesValue part.now self.old result self.new }
+        ensures resumes { ResumesValue part.now self.old result self.new }
+        ensures live { IfOk result (IsLiveValue (extent_in self.new.side)) }
     {
         Ok(value_or_undefined(self.resume(part)?))
     }
@@ -199,6 +205,7 @@ impl State {
     /// The frame on top ends.
     #[inline(always)]
     pub fn end(&mut self, end: Completion) -> Next
+        requires { IsLiveEnd (extent_in self.old.side) end }
         ensures { EndsWith end self.old result self.new }
     {
         self.put_answer(Answer::Done(end));
@@ -208,21 +215,92 @@ impl State {
     /// The frame on top ends with a value.
     #[inline(always)]
     pub fn give(&mut self, value: Value) -> Next
+        requires { IsLiveValue (extent_in self.old.side) value }
         ensures { EndsWith (completion.Normal (Some value)) self.old result self.new }
     {
         self.end(Completion::Normal(Some(value)))
     }
 
-    /// The frame on top ends by a throw. Where an error object would be thrown, which is not built, the value undefined is thrown.
+    /// The frame on top throws the value undefined: so does what no frame comes to, and what is not built.
     pub fn throw(&mut self) -> Next
         ensures { EndsWith no_error self.old result self.new }
     {
         self.end(Completion::Abrupt(Abrupt::Throw(Value::Undefined)))
     }
 
+    /// The frame on top ends by the throw of a new error (ECMA-262 20.5).
+    pub fn throw_error(&mut self, name: ErrorName, message: Str) -> Result<Next, AllocError>
+        ensures { IfOk result (λ next. Throws (record { name = name; message = message }) self.old next self.new) }
+    {
+        let error = self.make_error(name, message)?;
+        Ok(self.end(Completion::Abrupt(Abrupt::Throw(error))))
+    }
+
+    /// The frame on top ends by the throw of a TypeError that has no message of its own.
+    pub fn throw_type_error(&mut self) -> Result<Next, AllocError>
+        ensures { IfOk result (λ next. Throws type_error self.old next self.new) }
+    {
+        let message = type_message(self.alloc())?;
+        self.throw_error(ErrorName::Type, message)
+    }
+
+    /// The value that a name gave; where it has none that is at hand, the frame on top ends (ECMA-262 6.2.5.5 GetValue).
+    pub fn use_known(&mut self, name: &Str, known: Known) -> Result<Value, Over>
+        requires { IsLiveKnown (extent_in self.old.side) known }
+        ensures uses { Uses name.now (known_of known) self.old result self.new }
+        ensures live { IfOk result (IsLiveValue (extent_in self.new.side)) }
+    {
+        match known {
+            Known::Has(value) => Ok(value),
+            Known::Getter(_) => Err(Over::Next(self.throw())),
+            Known::NoValue => {
+                let message = uninitialized_message(self.alloc(), name)?;
+                Err(Over::Next(self.throw_error(ErrorName::Reference, message)?))
+            }
+            Known::NotBound => {
+                let message = undefined_message(self.alloc(), name)?;
+                Err(Over::Next(self.throw_error(ErrorName::Reference, message)?))
+            }
+        }
+    }
+
+    /// Gives a name that is bound where the frame on top keeps it a value. Where the name does not take it, that frame ends (ECMA-262
+    /// 6.2.5.6 PutValue).
+    pub fn put_name(&mut self, name: &Str, value: Value) -> Result<(), Over>
+        requires { IsLiveValue (extent_in self.old.side) value }
+        ensures { PutsName name.now value self.old result self.new }
+    {
+        let write = self.write_name(name, value)?;
+        self.check_write(name, write)
+    }
+
+    /// After a write of a name: where the name does not take the value, the frame on top ends.
+    fn check_write(&mut self, name: &Str, write: Write) -> Result<(), Over>
+        ensures { Checks name.now (write_of write) self.old result self.new }
+    {
+        match write {
+            Write::Written => Ok(()),
+            Write::Setter(_) => Err(Over::Next(self.throw())),
+            Write::TooEarly => {
+                let message = uninitialized_message(self.alloc(), name)?;
+                Err(Over::Next(self.throw_error(ErrorName::Reference, message)?))
+            }
+            Write::Fixed => {
+                let message = constant_message(self.alloc(), name)?;
+                Err(Over::Next(self.throw_error(ErrorName::Type, message)?))
+            }
+            Write::Unbound => {
+                let message = undefined_message(self.alloc(), name)?;
+                Err(Over::Next(self.throw_error(ErrorName::Reference, message)?))
+            }
+            Write::Rejected => Err(Over::Next(self.throw_type_error()?)),
+        }
+    }
+
     /// The value that the frame on top keeps, which is taken away; undefined where it keeps none.
     pub fn take_value(&mut self) -> Value
         ensures value { value_of result ≡ kept_in self.old }
+        ensures live { IsLiveValue (extent_in self.new.side) result }
         ensures rest { self.new ≡ keeping None self.old }
     {
         value_or_undefined(self.take_kept())
@@ -230,19 +308,22 @@ impl State {
 
     /// The value that an operator came to.
     pub fn operated(&mut self, came: Operated, stage: u32) -> Result<Value, Over>
-        ensures { Operates stage (operated_of came) self.old result self.new }
+        requires { GivesPrimitive came }
+        ensures operates { Operates stage (operated_of came) self.old result self.new }
+        ensures live { IfOk result (IsLiveValue (extent_in self.new.side)) }
     {
         match came {
             Operated::Gives(value) => Ok(value),
             Operated::Halts(stop) => Err(Over::Next(Next::Halt(StopName::Number(stop)))),
-            Operated::Rejects => Err(Over::Next(self.throw())),
+            Operated::Rejects => Err(Over::Next(self.throw_type_error()?)),
             Operated::Joins(left, right) => self.joined(&left, &right, stage),
         }
     }
 
     /// Both strings as one.
     fn joined(&mut self, left: &Str, right: &Str, stage: u32) -> Result<Value, Over>
-        ensures { Operates stage (Joins left.now right.now) self.old result self.new }
+        ensures operates { Operates stage (Joins left.now right.now) self.old result self.new }
+        ensures live { IfOk result (IsLiveValue (extent_in self.new.side)) }
     {
         if left.units().len() + right.units().len() > MAX_UNITS {
             return Err(Over::Next(Next::Halt(StopName::StringLength)));
@@ -278,7 +359,8 @@ impl State {
 
     /// The string that the frame on top keeps, once it is paid.
     pub fn pay_kept(&mut self) -> Result<Value, Next>
-        ensures { PaysKept self.old result self.new }
+        ensures pays { PaysKept self.old result self.new }
+        ensures live { IfOk result (IsLiveValue (extent_in self.new.side)) }
     {
         self.pay_for(units_in(&self.top().value))?;
         Ok(self.take_value())
@@ -291,7 +373,8 @@ impl State {
     {
         let arguments = self.take_list();
         let call = Activity::BuiltIn(function);
-        self.replace_top(Frame::new(call, 0, self.top().calls, arguments));
+        let calls = self.top().calls;
+        self.replace_top(Frame::new(call, Context::no_source(), calls, arguments));
         Next::Going
     }
 }

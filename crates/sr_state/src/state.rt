@@ -1,20 +1,33 @@
-ghost use Rattle.std.specs.Prelude.{◌≡◌, ◌<◌, ◌∷◌, ◌++◌, [], suc, Some, None, length, slice_set, option_map, reverse, OnOk, IfOk};
+ghost use Rattle.std.specs.Prelude.{◌≡◌, ◌≤◌, ◌<◌, ◌∷◌, ◌++◌, [], suc, Some, None, length, slice_set, reverse, OnOk, IfOk, IfSome};
+ghost use Rattle.std.specs.List.{AllByRecursion};
+ghost use Rattle.sr_value.specs.Live.{IsLiveScope, IsLiveValue, KeepsLiveValues};
+ghost use Rattle.sr_value.specs.Plain.{value_of};
+ghost use Rattle.sr_heap.specs.Live.{extent};
+ghost use Rattle.sr_heap.specs.Plain.{scope_of};
+ghost use Rattle.sr_intrin.specs.Numbers.{intrinsic_count};
 ghost use Rattle.sr_model.specs.Values.{Object};
-ghost use Rattle.sr_conv.specs.Plain.{value_of, option_of};
-ghost use Rattle.sr_model.specs.Globals.{assigned, accepted, error_made, error_in, global_value, next_object, next_source};
-ghost use Rattle.sr_state.specs.Errors.{name_text, error_of};
+ghost use Rattle.sr_model.specs.Names.{accepted};
+ghost use Rattle.sr_model.specs.Names as names;
+ghost use Rattle.sr_model.specs.Holds.{next_object, next_source};
+ghost use Rattle.sr_realm.specs.Errors.{with_error};
+ghost use Rattle.sr_realm.specs.Live.{IsLiveBase, IsLiveKnown, IsLiveWrite};
+ghost use Rattle.sr_realm.specs.Plain.{base_of, known_of, write_of};
 ghost use Rattle.sr_state.specs.Kept.{own_of};
+ghost use Rattle.sr_state.specs.Live.{IsLiveAnswer, IsLiveFrame, IsSound};
 ghost use Rattle.sr_state.specs.Parts.{Spends};
-ghost use Rattle.sr_state.specs.Held.{first, fresh_frame, fresh_own, pay_in, begun_in, idle, with_side, line_in, change_in, realm_in, cut_in, answered, topped, staged, keeping, listing, numbered, deeper, above, below, is_idle};
+ghost use Rattle.sr_state.specs.Held.{first, first_tag, fresh_frame, fresh_own, pay_in, begun_in, idle, with_side, line_in, realm_in, stored_in, extent_in, store_as, cut_in, answered, topped, staged, keeping, basing, listing, placed, deeper, above, below, is_idle};
 
 use crate::ends::{Answer, Next, StopName};
-use crate::errors::{ErrorName, ErrorObject};
-use crate::frame::{Activity, Frame};
-use crate::globals::Globals;
+use crate::frame::{Activity, Context, Frame};
 use crate::realm::Link;
 use sqlite_items::Items;
-use sr_ast::ScriptCode;
-use sr_tag::{Path, Ref, Tag};
+use sr_ast::Code;
+use sr_heap::Heap;
+use sr_intrin::{BuiltIn, ErrorName, build};
+use sr_realm::{
+    Base, Known, Write, accept, base_of_name, make_error, value_at, value_of_name, write_name,
+};
+use sr_tag::{Path, Tag};
 use sr_text::Str;
 use sr_value::Value;
 use std::alloc::{AllocError, Global};
@@ -24,9 +37,7 @@ use std::marker::Model;
 #[derive(Drop)]
 pub struct Kept {
     path: Path,
-    globals: Globals,
-    sources: u32,
-    errors: Items<ErrorObject>,
+    heap: Heap<Code, BuiltIn>,
     last_source: u32,
     last_at: usize,
     lines: Items<Str>,
@@ -35,15 +46,14 @@ pub struct Kept {
 }
 
 impl Kept {
-    /// A realm as it is made.
-    fn new(alloc: Global, path: Path) -> Result<Kept, AllocError>
-        ensures { IfOk result (λ k. own_of k ≡ fresh_own (0 ∷ path)) }
+    /// A realm as it is made, with this tag.
+    fn new(alloc: Global, tag: Tag, path: Path) -> Result<Kept, AllocError>
+        ensures made { IfOk result (λ k. own_of k ≡ fresh_own tag (0 ∷ path)) }
+        ensures count { IfOk result (λ k. intrinsic_count ≤ length k.heap.store.objects) }
     {
         Ok(Kept {
             path,
-            globals: Globals::new(alloc)?,
-            sources: 0,
-            errors: Items::new(alloc),
+            heap: build(alloc, tag)?,
             last_source: 0,
             last_at: 0,
             lines: Items::new(alloc),
@@ -96,8 +106,9 @@ impl Model for State {
     ghost use Rattle.std.specs.Prelude.{◌≤◌, ◌<◌, reverse, length, slice_set, map};
     ghost use Rattle.std.specs.Coded.{codes};
     ghost use Rattle.sr_ast.specs.contracts.tree.Tree as kind;
-    ghost use Rattle.sr_state.specs.Held.{Held, blank};
+    ghost use Rattle.sr_state.specs.Held.{Held, blank, extent_of};
     ghost use Rattle.sr_state.specs.Kept.{own_of};
+    ghost use Rattle.sr_state.specs.Live.{IsSound};
 
     ghost Value = { Held };
 
@@ -118,7 +129,7 @@ impl Model for State {
       frames = reverse s.frames;
     } };
 
-    ghost invariant = { λ s. (s.used ≤ s.bound) × (s.here.own ≤ s.used) };
+    ghost invariant = { λ s. (s.used ≤ s.bound) × (s.here.own ≤ s.used) × IsSound (extent_of (own_of s.here)) s.answer s.top (reverse s.frames) };
 }
 
 impl State {
@@ -128,11 +139,12 @@ impl State {
     pub fn new(alloc: Global, bound: u64) -> Result<State, AllocError>
         ensures { IfOk result (λ s. s ≡ first bound) }
     {
+        let tag = Tag { number: 0 };
         let mut others = Vec::new(alloc);
-        others.push(Kept::new(alloc, Path::root(alloc)?)?)?;
+        others.push(Kept::new(alloc, tag, Path::root(alloc)?)?)?;
         Ok(State {
             alloc,
-            here: Kept::new(alloc, Path::root(alloc)?)?,
+            here: Kept::new(alloc, tag, Path::root(alloc)?)?,
             place: 0,
             others,
             links: Items::new(alloc),
@@ -151,53 +163,79 @@ impl State {
         self.alloc
     }
 
-    /// The value of a name of the global object, shared.
-    pub fn global(&self, name: &Str) -> Result<Option<Value>, AllocError>
-        ensures { IfOk result (λ v. option_of v ≡ global_value name.now (realm_in self.now.side)) }
+    /// What the realm that runs keeps.
+    pub fn heap(&self) -> &Heap<Code, BuiltIn>
+        ensures same { (let h = result.now in h.store) ≡ stored_in self.now.side }
+        ensures extent { extent result.now ≡ extent_in self.now.side }
     {
-        self.here.globals.get(name)
+        &self.here.heap
     }
 
-    /// Accepts a source that declares these names by `var`, and answers its number.
-    pub fn accept(&mut self, script: &ScriptCode) -> Result<u32, AllocError>
+    /// Where a name is bound (ECMA-262 9.1.2.1 GetIdentifierReference), from the environment of the frame on top outward.
+    pub fn base(&self, name: &Str) -> Result<Base, AllocError>
+        ensures same { IfOk result (λ b. base_of b ≡ names.base_of (stored_in self.now.side) (scope_of self.now.top.context.environment) name.now) }
+        ensures live { IfOk result (IsLiveBase (extent_in self.now.side)) }
+    {
+        base_of_name(&self.here.heap, self.top.context.environment, name)
+    }
+
+    /// The value of a name, looked up from the environment of the frame on top outward (ECMA-262 6.2.5.5 GetValue).
+    pub fn name(&self, name: &Str) -> Result<Known, AllocError>
+        ensures same { IfOk result (λ k. known_of k ≡ names.value_of_name (stored_in self.now.side) (scope_of self.now.top.context.environment) name.now) }
+        ensures live { IfOk result (IsLiveKnown (extent_in self.now.side)) }
+    {
+        value_of_name(&self.here.heap, self.top.context.environment, name)
+    }
+
+    /// The value of a name that is bound where the frame on top keeps it.
+    pub fn name_there(&self, name: &Str) -> Result<Known, AllocError>
+        ensures same { IfOk result (λ k. known_of k ≡ names.value_at (stored_in self.now.side) (base_of self.now.top.base) name.now) }
+        ensures live { IfOk result (IsLiveKnown (extent_in self.now.side)) }
+    {
+        value_at(&self.here.heap, &self.top.base, name)
+    }
+
+    /// Gives a name that is bound where the frame on top keeps it a value (ECMA-262 6.2.5.6 PutValue), in the code of that frame.
+    pub fn write_name(&mut self, name: &Str, value: Value) -> Result<Write, AllocError>
+        requires { IsLiveValue (extent_in self.old.side) value }
+        ensures answer { IfOk result (λ w. write_of w ≡ names.write_answer self.old.top.context.strict (stored_in self.old.side) (base_of self.old.top.base) name.now (value_of value)) }
+        ensures after { OnOk result (self.new ≡ with_side self.old (store_as (names.write self.old.top.context.strict (stored_in self.old.side) (base_of self.old.top.base) name.now (value_of value)) self.old.side)) }
+        ensures kept { extent_in self.new.side ≡ extent_in self.old.side }
+        ensures live { IfOk result (IsLiveWrite (extent_in self.new.side)) }
+    {
+        write_name(
+            &mut self.here.heap,
+            self.top.context.strict,
+            &self.top.base,
+            name,
+            value,
+        )
+    }
+
+    /// Accepts a source with this text that declares these names by `var`, and answers its number.
+    pub fn accept(&mut self, names: &[Str], text: Str) -> Result<u32, AllocError>
         ensures number { IfOk result (λ n. n ≡ next_source (realm_in self.old.side)) }
-        ensures accepted { OnOk result (self.new ≡ with_side self.old (change_in (accepted script.now.names) self.old.side)) }
+        ensures accepted { OnOk result (self.new ≡ with_side self.old (store_as (accepted names.now text (stored_in self.old.side)) self.old.side)) }
+        ensures kept { extent_in self.new.side ≡ extent_in self.old.side }
     {
-        let Some(number) = self.here.sources.checked_add(1) else {
-            return Err(AllocError);
-        };
-        self.here.globals.declare_all(script.names())?;
-        self.here.sources = number;
-        Ok(number)
-    }
-
-    /// Gives a name of the global object a value.
-    pub fn assign(&mut self, name: &Str, value: Value) -> Result<(), AllocError>
-        ensures { OnOk result (self.new ≡ with_side self.old (change_in (assigned name.now (value_of value)) self.old.side)) }
-    {
-        self.here.globals.set(name, value)
+        accept(&mut self.here.heap, names, text)
     }
 
     /// Makes an error object, and answers its value (ECMA-262 20.5.1.1).
     pub fn make_error(&mut self, name: ErrorName, message: Str) -> Result<Value, AllocError>
         ensures value { IfOk result (λ v. value_of v ≡ Object (next_object (realm_in self.old.side))) }
-        ensures made { OnOk result (self.new ≡ with_side self.old (change_in (error_made (record { name = name_text name; message = message })) self.old.side)) }
+        ensures made { OnOk result (self.new ≡ with_side self.old (store_as (with_error (record { name = name; message = message }) (stored_in self.old.side)) self.old.side)) }
+        ensures live { IfOk result (IsLiveValue (extent_in self.new.side)) }
+        ensures kept { KeepsLiveValues (extent_in self.old.side) (extent_in self.new.side) }
     {
-        let place = self.here.errors.len();
-        self.here.errors.push(ErrorObject { name, message })?;
-        Ok(Value::Obj(Ref::at(Tag { number: 0 }, place)))
-    }
-
-    /// The error object at a place, counted from 0: the one that is numbered from 1 by one more.
-    pub fn error(&self, place: usize) -> Option<&ErrorObject>
-        ensures { option_map (λ e. error_of e.now) result ≡ error_in (realm_in self.now.side) (suc place) }
-    {
-        self.here.errors.get(place)
+        let alloc = self.alloc;
+        Ok(Value::Obj(make_error(alloc, &mut self.here.heap, name, message)?))
     }
 
     /// Prints a line, as far as the realm remembers it.
     pub fn add_line(&mut self, line: Str) -> Result<(), AllocError>
-        ensures { OnOk result (self.new ≡ with_side self.old (line_in line self.old.side)) }
+        ensures added { OnOk result (self.new ≡ with_side self.old (line_in line self.old.side)) }
+        ensures kept { extent_in self.new.side ≡ extent_in self.old.side }
     {
         self.here.lines.push(line)
     }
@@ -229,10 +267,10 @@ impl State {
 
     /// Pays the step of a tree of the frame on top that begins at this place, counted in code units, or the step is over.
     pub fn spend_at(&mut self, at: usize) -> Result<(), Next>
-        ensures { Spends 1 (begun_in self.old.top.source at) self.old result self.new }
+        ensures { Spends 1 (begun_in self.old.top.context.source at) self.old result self.new }
     {
         self.spend(1)?;
-        self.here.last_source = self.top.source;
+        self.here.last_source = self.top.context.source;
         self.here.last_at = at;
         Ok(())
     }
@@ -253,7 +291,8 @@ impl State {
 
     /// What the frame on top is given.
     pub fn answer(&self) -> &Answer
-        ensures { result.now ≡ (let h = self.now in h.answer) }
+        ensures same { result.now ≡ (let h = self.now in h.answer) }
+        ensures live { IsLiveAnswer (extent_in self.now.side) result.now }
     {
         &self.answer
     }
@@ -261,6 +300,7 @@ impl State {
     /// What the frame on top is given, which is taken away.
     pub fn take_answer(&mut self) -> Answer
         ensures answer { result ≡ self.old.answer }
+        ensures live { IsLiveAnswer (extent_in self.new.side) result }
         ensures rest { self.new ≡ answered Answer.Empty self.old }
     {
         std::mem::replace(&mut self.answer, Answer::Empty)
@@ -269,6 +309,7 @@ impl State {
     /// Gives the frame on top an answer.
     #[inline(always)]
     pub fn put_answer(&mut self, answer: Answer)
+        requires { IsLiveAnswer (extent_in self.old.side) answer }
         ensures { self.new ≡ answered answer self.old }
     {
         self.answer = answer;
@@ -276,7 +317,8 @@ impl State {
 
     /// The frame on top.
     pub fn top(&self) -> &Frame
-        ensures { result.now ≡ (let h = self.now in h.top) }
+        ensures same { result.now ≡ (let h = self.now in h.top) }
+        ensures live { IsLiveFrame (extent_in self.now.side) self.now.top }
     {
         &self.top
     }
@@ -295,11 +337,20 @@ impl State {
         self.top.stage = stage;
     }
 
-    /// The frame on top is of another source.
-    pub fn set_source(&mut self, source: u32)
-        ensures { self.new ≡ numbered source self.old }
+    /// The frame on top is in another context.
+    pub fn set_context(&mut self, context: Context)
+        requires { IfSome context.environment (IsLiveScope (extent_in self.old.side)) }
+        ensures { self.new ≡ placed context self.old }
     {
-        self.top.source = source;
+        self.top.context = context;
+    }
+
+    /// The frame on top keeps where the name of a target is bound.
+    pub fn keep_base(&mut self, base: Base)
+        requires { IsLiveBase (extent_in self.old.side) base }
+        ensures { self.new ≡ basing base self.old }
+    {
+        self.top.base = base;
     }
 
     /// The frame on top has one more active call.
@@ -312,6 +363,7 @@ impl State {
 
     /// The frame on top keeps this value.
     pub fn keep(&mut self, value: Value)
+        requires { IsLiveValue (extent_in self.old.side) value }
         ensures { self.new ≡ keeping (Some value) self.old }
     {
         self.top.value = Some(value);
@@ -320,6 +372,7 @@ impl State {
     /// The value that the frame on top keeps, which is taken away.
     pub fn take_kept(&mut self) -> Option<Value>
         ensures value { result ≡ self.old.top.value }
+        ensures live { IfSome result (IsLiveValue (extent_in self.new.side)) }
         ensures rest { self.new ≡ keeping None self.old }
     {
         self.top.value.take()
@@ -327,6 +380,7 @@ impl State {
 
     /// The frame on top keeps a value more in its list.
     pub fn keep_more(&mut self, value: Value) -> Result<(), AllocError>
+        requires { IsLiveValue (extent_in self.old.side) value }
         ensures { OnOk result (self.new ≡ listing (self.old.top.list ++ value ∷ []) self.old) }
     {
         self.top.list.push(value)
@@ -334,7 +388,8 @@ impl State {
 
     /// In the list of the frame on top this value takes the place of the one at this place, counted from 0.
     pub fn set_in_list(&mut self, at: usize, value: Value)
-        requires { at < length self.old.top.list }
+        requires there { at < length self.old.top.list }
+        requires live { IsLiveValue (extent_in self.old.side) value }
         ensures { self.new ≡ listing (slice_set self.old.top.list at value) self.old }
     {
         self.top.list.set(at, value);
@@ -343,6 +398,7 @@ impl State {
     /// The list of the frame on top, which is taken away.
     pub fn take_list(&mut self) -> Items<Value>
         ensures list { result ≡ self.old.top.list }
+        ensures live { AllByRecursion (IsLiveValue (extent_in self.new.side)) result }
         ensures rest { self.new ≡ listing [] self.old }
     {
         std::mem::replace(&mut self.top.list, Items::new(self.alloc))
@@ -350,23 +406,25 @@ impl State {
 
     /// Another frame is on top, in place of the one that is there.
     pub fn replace_top(&mut self, frame: Frame)
+        requires { IsLiveFrame (extent_in self.old.side) frame }
         ensures { self.new ≡ topped frame self.old }
     {
         self.top = frame;
     }
 
-    /// A frame that begins this is put above the one on top, of the same source, with the same active calls. Its fields change in
+    /// A frame that begins this is put above the one on top, in the same context, with the same active calls. Its fields change in
     /// place.
     pub fn push(&mut self, activity: Activity) -> Result<(), AllocError>
-        ensures { OnOk result (self.new ≡ (let h = self.old in let f = h.top in above (fresh_frame activity f.source f.calls []) h)) }
+        ensures { OnOk result (self.new ≡ (let h = self.old in let f = h.top in above (fresh_frame activity f.context f.calls []) h)) }
     {
         let waiting = Frame {
             activity: std::mem::replace(&mut self.top.activity, activity),
-            source: self.top.source,
+            context: self.top.context,
             stage: self.top.stage,
             calls: self.top.calls,
             value: self.top.value.take(),
             list: std::mem::replace(&mut self.top.list, Items::new(self.alloc)),
+            base: std::mem::replace(&mut self.top.base, Base::Unresolvable),
         };
         self.top.stage = 0;
         self.frames.push(waiting)

@@ -9,23 +9,25 @@ use Rattle.sr_ast.specs.declared.reading.Reading.TheVariants as reading
 use Rattle.sr_ast.specs.declared.refused.Refused.{Refused}
 use Rattle.sr_ast.specs.declared.refused.Refused.TheVariants as refused
 use Rattle.sr_value.specs.declared.value.Value.{Value}
-use Rattle.sr_model.specs.Values.{Object}
 use Rattle.sr_model.specs.Outcomes.{Normal}
 use Rattle.sr_model.specs.Scripts.{Give}
-use Rattle.sr_model.specs.Globals.{accepted, error_made, next_object, next_source}
-use Rattle.sr_conv.specs.Plain.{value_of}
+use Rattle.sr_model.specs.Holds.{next_source}
+use Rattle.sr_model.specs.Names.{accepted, base_of}
+use Rattle.sr_model.specs.Tasks.{Context}
+use Rattle.sr_realm.specs.declared.names.Base as code
+use Rattle.sr_realm.specs.Plain as plain
+use Rattle.sr_realm.specs.Errors.{syntax_error}
+use Rattle.sr_state.specs.Contexts.{context_of}
 use Rattle.sr_state.specs.Work.{Loop}
-use Rattle.sr_state.specs.declared.ends.Abrupt.TheVariants as abrupt
 use Rattle.sr_state.specs.declared.ends.Completion.TheVariants as completion
 use Rattle.sr_state.specs.declared.ends.Next.{Next}
 use Rattle.sr_state.specs.declared.ends.Next.TheVariants as next
 use Rattle.sr_state.specs.declared.ends.Over.{Over}
 use Rattle.sr_state.specs.declared.ends.Over.TheVariants as over
 use Rattle.sr_state.specs.declared.ends.StopName.TheVariants as stop
-use Rattle.sr_state.specs.Errors.{syntax_error}
-use Rattle.sr_state.specs.Held.{Held, realm_in, change_in, with_side, numbered, staged, keeping}
+use Rattle.sr_state.specs.Held.{Held, realm_in, with_side, basing, placed, staged, keeping, store_as, stored_in}
 use Rattle.sr_state.specs.Lists.{Here}
-use Rattle.sr_state.specs.Parts.{Resumes, BeginsPart, EndsWith}
+use Rattle.sr_state.specs.Parts.{Resumes, BeginsPart, EndsWith, Throws}
 use Rattle.sr_state.specs.Step.{At}
 use Rattle.sr_stmt.specs.declared.loops.Looping.{Looping}
 use Rattle.sr_stmt.specs.declared.variables.Initializer.{Initializer}
@@ -68,37 +70,39 @@ Statement (Some t) next old n new =
     Keeps t old (Err (over.Next n)) new ⊎ ((mid : Held) × Keeps t old (Ok tt) mid × (let f = mid.top in Continues (suc f.stage) next mid n new))
 
 -- those from a place on do what those from a later place on do, which begin with one that has a value; or there is none
-abbrev pub IsNext : ℕ → List Declaration → Option Initializer → Type 0
-IsNext from ds None = (s : ℕ) → declare s 0 (drop from ds) ≡ Give (Normal None)
-IsNext from ds (Some v) =
-    ((d : Declaration) × (drop v.place ds ≡ d ∷ drop (suc v.place) ds) × (let o = out-Declaration d in o.value ≡ Some v.value.now))
-    × ((s : ℕ) → declare s 0 (drop from ds) ≡ declare s 0 (drop v.place ds))
+abbrev pub IsNext : Context → ℕ → List Declaration → Option Initializer → Type 0
+IsNext c from ds None = declare c (drop from ds) ≡ Give (Normal None)
+IsNext c from ds (Some v) =
+    ((d : Declaration) × (drop v.place ds ≡ d ∷ drop (suc v.place) ds) × (let o = out-Declaration d in (o.value ≡ Some v.value.now) × (o.name ≡ v.name.now)))
+    × (declare c (drop from ds) ≡ declare c (drop v.place ds))
 
--- a value is next, or where there is none the end
+-- a value is next, and the frame keeps where its name is bound; or where there is none the end
 abbrev pub begins : Option Initializer → Held → Next → Held → Type 0
 begins None old n new = EndsWith (completion.Normal None) old n new
-begins (Some v) old n new = BeginsPart v.value.now (staged (suc v.place) old) n new
+begins (Some v) old n new =
+    (let f = old.top in let c = context_of f.context in
+    (b : code.Base) × (plain.base_of b ≡ base_of (stored_in old.side) c.environment v.name.now) × BeginsPart v.value.now (staged (suc v.place) (basing b old)) n new)
 
 -- the first value from a place on is next, or the end
 abbrev pub BeginsValue : ℕ → List Declaration → Held → Next → Held → Type 0
-BeginsValue from ds old n new = (found : Option Initializer) × IsNext from ds found × begins found old n new
+BeginsValue from ds old n new = (let f = old.top in (found : Option Initializer) × IsNext (context_of f.context) from ds found × begins found old n new)
 
 -- after a script is accepted
-abbrev pub accepted_in : Script → Held → Held
-accepted_in x h = numbered (next_source (realm_in h.side)) (with_side h (change_in (accepted x.names) h.side))
+abbrev pub accepted_in : List ℕ → Script → Held → Held
+accepted_in text x h =
+    placed (record { source = next_source (realm_in h.side); strict = false; environment = None })
+    (with_side h (store_as (accepted x.names text (stored_in h.side)) h.side))
 
 -- a script is accepted, and its first statement is next
-abbrev pub Accepts : Script → Held → Next → Held → Type 0
-Accepts x old n new = (first : Option Tree) × Here 0 x.body first × Continues 2 first (keeping None (accepted_in x old)) n new
+abbrev pub Accepts : List ℕ → Script → Held → Next → Held → Type 0
+Accepts text x old n new = (first : Option Tree) × Here 0 x.body first × Continues 2 first (keeping None (accepted_in text x old)) n new
 
 -- what is no script ends by a SyntaxError or by a stop
 abbrev pub Refuses : Refused → Held → Next → Held → Type 0
-Refuses (refused.Syntax at) old n new =
-    (v : Value) × (value_of v ≡ Object (next_object (realm_in old.side)))
-    × EndsWith (completion.Abrupt (abrupt.Throw v)) (with_side old (change_in (error_made (syntax_error at)) old.side)) n new
+Refuses (refused.Syntax at) old n new = Throws (syntax_error at) old n new
 Refuses (refused.Unsupported marker at) old n new = (n ≡ next.Halt (stop.Unsupported marker at)) × (new ≡ old)
 Refuses refused.TooDeep old n new = (n ≡ next.Halt stop.SyntaxDepth) × (new ≡ old)
 
-abbrev pub Reads : Reading → Held → Next → Held → Type 0
-Reads (reading.Script x) old n new = Accepts x old n new
-Reads (reading.Refused why) old n new = Refuses why old n new
+abbrev pub Reads : List ℕ → Reading → Held → Next → Held → Type 0
+Reads text (reading.Script x) old n new = Accepts text x old n new
+Reads text (reading.Refused why) old n new = Refuses why old n new

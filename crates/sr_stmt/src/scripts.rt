@@ -8,12 +8,12 @@ ghost use Rattle.sr_stmt.specs.Stages.{source_at};
 ghost use Rattle.sr_stmt.specs.Turns.{Accepts, Refuses, Reads};
 
 use crate::lists::{begin_statement, statement};
-use sr_ast::{Reading, Refused, ScriptCode, SourceCode, Tree};
+use sr_ast::{Reading, Refused, ScriptCode, Tree};
+use sr_intrin::ErrorName;
+use sr_realm::syntax_message;
 use sr_shared::Shared;
-use sr_state::{
-    Abrupt, Completion, ErrorName, Next, Over, State, StopName, after, before, string_cost,
-    syntax_message,
-};
+use sr_state::{Context, Next, Over, Source, State, StopName, after, before, string_cost};
+use sr_text::Str;
 use std::alloc::AllocError;
 
 /// The statement of a script of this number, from 0.
@@ -25,11 +25,15 @@ fn statement_here(script: &ScriptCode, at: u32) -> Option<&Shared<Tree>>
 }
 
 /// Accepts a script: its names are declared, and its first statement is next (ECMA-262 16.1.7).
-fn accept(state: &mut State, script: &ScriptCode) -> Result<Next, Over>
-    ensures { Comes result (λ next. Accepts script.now state.old next state.new) }
+fn accept(state: &mut State, text: &Str, script: &ScriptCode) -> Result<Next, Over>
+    ensures { Comes result (λ next. Accepts text.now script.now state.old next state.new) }
 {
-    let number = state.accept(script)?;
-    state.set_source(number);
+    let source = state.accept(script.names(), text.clone()?)?;
+    state.set_context(Context {
+        source,
+        strict: false,
+        environment: None,
+    });
     state.take_kept();
     begin_statement(state, 2, statement_here(script, 0))
 }
@@ -41,8 +45,7 @@ fn refuse(state: &mut State, why: Refused) -> Result<Next, Over>
     match why {
         Refused::Syntax(at) => {
             let message = syntax_message(state.alloc(), at)?;
-            let error = state.make_error(ErrorName::Syntax, message)?;
-            Ok(state.end(Completion::Abrupt(Abrupt::Throw(error))))
+            Ok(state.throw_error(ErrorName::Syntax, message)?)
         }
         Refused::Unsupported(marker, at) => Ok(Next::Halt(StopName::Unsupported(marker, at))),
         Refused::TooDeep => Ok(Next::Halt(StopName::SyntaxDepth)),
@@ -50,23 +53,23 @@ fn refuse(state: &mut State, why: Refused) -> Result<Next, Over>
 }
 
 /// Reads a text, which is paid (ECMA-262 16.1.6).
-fn read(state: &mut State, source: &SourceCode) -> Result<Next, Over>
-    ensures { Comes result (λ next. Reads source.now.reading state.old next state.new) }
+fn read(state: &mut State, source: &Source) -> Result<Next, Over>
+    ensures { Comes result (λ next. Reads source.now.text source.now.code.reading state.old next state.new) }
 {
-    match &source.reading {
-        Reading::Script(script) => accept(state, script),
+    match &source.code.reading {
+        Reading::Script(script) => accept(state, &source.text, script),
         Reading::Refused(why) => refuse(state, *why),
     }
 }
 
 /// A source (ECMA-262 16.1): it is paid, read and accepted, and its statements are carried out.
-fn source_step(state: &mut State, source: &SourceCode) -> Result<Next, Over>
+fn source_step(state: &mut State, source: &Source) -> Result<Next, Over>
     ensures { Comes result (λ next. StepsAnywhere operation (source_at source.now) state.old next state.new) }
 {
     match before(state.stage()) {
         None => {
             state.pay(1)?;
-            match string_cost(source.units) {
+            match string_cost(source.code.units) {
                 None => read(state, source),
                 Some(_) => {
                     state.set_stage(1);
@@ -76,10 +79,10 @@ fn source_step(state: &mut State, source: &SourceCode) -> Result<Next, Over>
         }
         Some(number) => match before(number) {
             None => {
-                state.pay_for(source.units)?;
+                state.pay_for(source.code.units)?;
                 read(state, source)
             }
-            Some(number) => match &source.reading {
+            Some(number) => match &source.code.reading {
                 Reading::Refused(_) => Ok(state.throw()),
                 Reading::Script(script) => statement(
                     state,
@@ -92,7 +95,7 @@ fn source_step(state: &mut State, source: &SourceCode) -> Result<Next, Over>
 }
 
 /// A step of the frame on top, which carries out this source.
-pub fn step_source(state: &mut State, source: &SourceCode) -> Result<Next, AllocError>
+pub fn step_source(state: &mut State, source: &Source) -> Result<Next, AllocError>
     ensures { IfOk result (λ next. StepsAnywhere operation (source_at source.now) state.old next state.new) }
 {
     match source_step(state, source) {

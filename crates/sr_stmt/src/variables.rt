@@ -1,4 +1,5 @@
 ghost use Rattle.std.specs.Prelude.{IfOk};
+ghost use Rattle.sr_model.specs.Tasks.{Context};
 ghost use Rattle.sr_state.specs.Ends.{Comes};
 ghost use Rattle.sr_stmt.specs.Stages.{StepsOn, variables_at};
 ghost use Rattle.sr_stmt.specs.Turns.{IsNext, BeginsValue};
@@ -7,6 +8,7 @@ use sqlite_items::Items;
 use sr_ast::{Declaration, Tree};
 use sr_shared::Shared;
 use sr_state::{Completion, Next, Over, State, after, before, here};
+use sr_text::Str;
 use std::alloc::AllocError;
 
 /// The value of a declaration.
@@ -14,6 +16,8 @@ use std::alloc::AllocError;
 struct Initializer<'a> {
     /// The number of the declaration, from 0.
     place: u32,
+    /// The name.
+    name: &'a Str,
     /// The value.
     value: &'a Shared<Tree>,
 }
@@ -23,14 +27,18 @@ fn next_initializer(
     declarations: &Items<Declaration>,
     from: u32,
 ) -> Result<Option<Initializer<'_>>, AllocError>
-    ensures { IfOk result (λ found. IsNext from declarations.now found) }
+    ensures { (c : Context) → IfOk result (IsNext c from declarations.now) }
 {
     for place in from..u32::MAX {
         match here(declarations, place) {
             None => return Ok(None),
             Some(declaration) => {
                 if let Some(value) = &declaration.value {
-                    return Ok(Some(Initializer { place, value }));
+                    return Ok(Some(Initializer {
+                        place,
+                        name: &declaration.name,
+                        value,
+                    }));
                 }
             }
         }
@@ -49,6 +57,8 @@ fn begin_value(
     match next_initializer(declarations, from)? {
         None => Ok(state.end(Completion::Normal(None))),
         Some(found) => {
+            let base = state.base(found.name)?;
+            state.keep_base(base);
             state.set_stage(after(found.place)?);
             state.begin_part(found.value)
         }
@@ -74,7 +84,7 @@ pub fn variables(
                 None => Ok(state.throw()),
                 Some(part) => {
                     let value = state.resume_value(part)?;
-                    state.assign(&declaration.name, value)?;
+                    state.put_name(&declaration.name, value)?;
                     begin_value(state, declarations, after(number)?)
                 }
             },

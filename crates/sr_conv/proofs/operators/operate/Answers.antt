@@ -10,5 +10,5 @@ of_numbers : (o : BinaryOp)
     → is_of_numbers o ≡ true
 of_numbers o h = elim h [ inl e ↦ ap is_of_numbers e | inr h ↦ elim h [ inl e ↦ ap is_of_numbers e | inr h ↦ elim h [ inl e ↦ ap is_of_numbers e | inr h ↦ elim h [ inl e ↦ ap is_of_numbers e | inr h ↦ elim h [ inl e ↦ ap is_of_numbers e | inr h ↦ elim h [ inl e ↦ ap is_of_numbers e | inr h ↦ elim h [ inl e ↦ ap is_of_numbers e | inr h ↦ elim h [ inl e ↦ ap is_of_numbers e | inr h ↦ elim h [ inl e ↦ ap is_of_numbers e | inr h ↦ elim h [ inl e ↦ ap is_of_numbers e | inr h ↦ ap is_of_numbers h ] ] ] ] ] ] ] ] ] ]
 
-pub returns-in-Power : goal.returns-in-Power
-returns-in-Power c = c.arithmetic.ensures ∙ arithmetic_is c.args.op (value_of c.args.x.now) (value_of c.args.y.now) (of_numbers c.args.op c.in-Power.is)
+pub returns-in-Power-clause-same : goal.returns-in-Power-clause-same
+returns-in-Power-clause-same c = c.arithmetic.ensures.same ∙ arithmetic_is c.args.op (value_of c.args.x.now) (value_of c.args.y.now) (of_numbers c.args.op c.in-Power.is)

@@ -3,9 +3,8 @@ use Rattle.std.proofs.lemmas.List.{take_min}
 use Rattle.sr_value.specs.declared.value.Value.{Value}
 use Rattle.sr_conv.specs.Plain.{value_of}
 use Rattle.sr_conv.specs.Reports.{value_report, report}
-use Rattle.sr_model.specs.Globals.{error_in}
-use Rattle.sr_state.specs.Held.{realm_in}
-use Rattle.sr_machine.specs.Language.{error_report}
+use Rattle.sr_realm.specs.Reports.{object_report}
+use Rattle.sr_state.specs.Held.{stored_in}
 use Rattle.sr_machine.proofs.reports.report.Goals as goal
 
 -- the first units of a list are all that is told of it
@@ -20,5 +19,5 @@ of_value object v text e = e
 
 pub returns-in-Ok : goal.returns-in-Ok
 returns-in-Ok c =
-    of_value (λ n. error_report (error_in (realm_in c.args.state.now.side) n)) c.args.value.now c.in-Ok.text
+    of_value (object_report (let s = stored_in c.args.state.now.side in s.objects)) c.args.value.now c.in-Ok.text
     (c.in-Ok.ensures.ok ∙ told 16777216 c.len.result c.min-told.result c.deref.result.now c.min-told.ensures (c.len.ensures ∙ sym c.deref.ensures.len) ∙ ap (take 16777216) (c.deref.ensures.value ∙ c.in_ok-units.ensures))

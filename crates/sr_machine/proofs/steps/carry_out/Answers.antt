@@ -9,4 +9,4 @@ use Rattle.sr_machine.proofs.steps.carry_out.Goals as goal
 pub returns-in_ok-source-in-Source : goal.returns-in_ok-source-in-Source
 returns-in_ok-source-in-Source c =
     subst (λ (a : Activity). IfOk c.step_source.result (λ n. StepsOf a c.args.state.now n c.step_source.new.state))
-    (ap activity.Source c.in_ok-source-in-Source.ensures ∙ sym c.in-Source.is ∙ ap (λ (f : Frame). f.activity) c.top.ensures) c.step_source.ensures
+    (ap activity.Source c.in_ok-source-in-Source.ensures ∙ sym c.in-Source.is ∙ ap (λ (f : Frame). f.activity) c.top.ensures.same) c.step_source.ensures
