@@ -81,7 +81,7 @@ fn end_of(live: &mut Live, out: &mut SureSink) -> Advance {
 fn run_of_broken(alloc: Global, at: usize) -> Result<Live, Fail> {
     let mut live = Live::open(alloc, MANY)?;
     live.give_source(Source {
-        text: Str::of_units(alloc, &[])?,
+        text: Str::of_units(alloc, &[]).map_err(|_| AllocError)?,
         code: SourceCode {
             reading: Reading::Refused(Refused::Syntax(at)),
             units: at,
