@@ -18,6 +18,14 @@ class OutOfSteps(Exception):
     """The bound has no room for a charge."""
 
 
+class Thrown(Exception):
+    """A value was thrown."""
+
+    def __init__(self, value):
+        super().__init__()
+        self.value = value
+
+
 class Undefined:
     """The value undefined. Null is None, and a string is a str of code units."""
 
@@ -221,6 +229,11 @@ def goes_on(operator, value):
     return value is UNDEFINED or value is None
 
 
+def told(value):
+    """What is told of a primitive that was thrown and not caught, as a text of code points."""
+    return to_text(value).encode("utf-16-le", "surrogatepass").decode("utf-16-le", "replace")
+
+
 class Run:
     """A run of a script with a bound of steps."""
 
@@ -346,6 +359,12 @@ class Run:
     def carry_out_empty(self, tree):
         pass
 
+    def carry_out_debugger(self, tree):
+        pass
+
+    def carry_out_throw(self, tree):
+        raise Thrown(self.value(tree.parts[0]))
+
     def carry_out_if(self, tree):
         test, yes, no = tree.parts
         if to_boolean(self.value(test)):
@@ -383,4 +402,6 @@ class Run:
         except (Stop, OutOfSteps) as end:
             status = 3 if isinstance(end, Stop) else 4
             return status, f"stop: {end}, realm 0, source {self.source}, at {self.at}\n"
+        except Thrown as thrown:
+            return 1, f"uncaught a.js: {told(thrown.value)}\n"
         return 0, ""

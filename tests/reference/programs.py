@@ -1,4 +1,4 @@
-"""Random scripts of variables, operators and loops: the trees, and a text of them with gaps at random."""
+"""Random scripts of variables, operators, loops and throws: the trees, and a text of them with gaps at random."""
 
 from evaluation import LARGEST, NAN, UNDEFINED
 
@@ -135,6 +135,8 @@ class Programs:
             self.declarations: 12,
             lambda: Tree("block", *[below() for _ in range(self.random.randint(0, 3))]): 7,
             lambda: Tree("empty"): 3,
+            lambda: Tree("debugger"): 2,
+            lambda: Tree("throw", self.expression(2)): 2,
             lambda: Tree("if", self.expression(2), below(), self.random.choice([below(), None])): 9,
             lambda: self.loop(depth): 19,
         }
@@ -335,6 +337,18 @@ class Writer:
         for statement in tree.parts:
             self.statement(statement)
         self.token("}")
+
+    def state_debugger(self, tree):
+        self.token("debugger")
+        self.lacks_semicolon = True
+
+    def state_throw(self, tree):
+        # no line may end between the word and the value
+        self.token("throw")
+        self.token("(", is_parenthesis=True, may_break=False)
+        self.expression(tree.parts[0], SEQUENCE)
+        self.token(")", is_parenthesis=True)
+        self.lacks_semicolon = True
 
     def state_empty(self, tree):
         if self.may_end_do:

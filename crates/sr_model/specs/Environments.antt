@@ -60,6 +60,22 @@ create_binding es n x = change es n (λ e. record e { bindings = created x e.bin
 abbrev pub set_binding : List Environment → ℕ → Text → Binding → List Environment
 set_binding es n x b = change es n (λ e. record e { bindings = rebound x b e.bindings })
 
+-- the environments after each of these names that is not bound there has got a binding that has no value yet
+abbrev pub with_binding : List Environment → ℕ → Text → List Environment
+with_binding es n x = cond (is_some (binding es n x)) es (create_binding es n x)
+
+abbrev pub with_bindings : List Environment → ℕ → List Text → List Environment
+with_bindings es n [] = es
+with_bindings es n (x ∷ xs) = with_bindings (with_binding es n x) n xs
+
+-- and after each has got the binding there that it has in another environment
+abbrev pub with_copy : List Environment → ℕ → ℕ → Text → List Environment
+with_copy es from to x = (let fs = with_binding es to x in option_map_or (set_binding fs to x) (binding es from x) fs)
+
+abbrev pub with_copies : List Environment → ℕ → ℕ → List Text → List Environment
+with_copies es from to [] = es
+with_copies es from to (x ∷ xs) = with_copies (with_copy es from to x) from to xs
+
 -- 9.1.2.1 GetIdentifierReference: the environment in which a name is bound, from one outward; and the number 0, that of the global
 -- environment, where none of the list has it. No environment comes twice on the way, so no way is longer than the list
 abbrev pub holder_along : ℕ → List Environment → ℕ → Text → ℕ

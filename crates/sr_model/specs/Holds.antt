@@ -35,9 +35,12 @@ module _ {Code BuiltIn : Type 0} where
   abbrev pub store_in : Realm (Holds Code BuiltIn) → Store Code BuiltIn
   store_in r = (let i = r.inner in let h = i.rest in h.store)
 
-  -- the numbers of the object that is made next, and of the source that is accepted next
+  -- the numbers of the object and of the environment that are made next, and of the source that is accepted next
   abbrev pub next_object : Realm (Holds Code BuiltIn) → ℕ
   next_object r = (let s = store_in r in suc (length s.objects))
+
+  abbrev pub next_environment : Realm (Holds Code BuiltIn) → ℕ
+  next_environment r = (let s = store_in r in suc (length s.environments))
 
   abbrev pub next_source : Realm (Holds Code BuiltIn) → ℕ
   next_source r = (let s = store_in r in suc (length s.sources))

@@ -20,6 +20,7 @@ pub record Context : Type 0 where
 -- the tasks of a language, by kind, with its own types of trees, of built-in functions and of operations
 pub data Task (Tree BuiltIn Operation : Type 0) : Type 0 where
   Run : Context → Tree → Task Tree BuiltIn Operation
+  RunLabelled : Context → List Text → Tree → Task Tree BuiltIn Operation  -- a statement with these labels before it (ECMA-262 14.13.4, the label set)
   Apply : ℕ → Value → List Value → Task Tree BuiltIn Operation  -- calls an object, with this and arguments (ECMA-262 7.3.14)
   Construct : ℕ → List Value → ℕ → Task Tree BuiltIn Operation  -- with the new target (ECMA-262 7.3.15)
   Perform : BuiltIn → Value → List Value → Option ℕ → Task Tree BuiltIn Operation  -- a built-in function, with this, arguments and new target

@@ -33,6 +33,10 @@ syntax_message at = codes "syntax error at " ++ decimal at
 abbrev pub syntax_error : ℕ → ErrorParts
 syntax_error at = record { name = error.Syntax; message = syntax_message at }
 
+-- a name that a script declares clashes with what is declared already (16.1.7)
+abbrev pub declaration_error : ErrorParts
+declaration_error = record { name = error.Syntax; message = codes "syntax error" }
+
 -- a name that is nowhere bound, and one that has no value yet (6.2.5.5, 9.1.1.1.6)
 abbrev pub not_defined : Text → ErrorParts
 not_defined x = record { name = error.Reference; message = x ++ codes " is not defined" }

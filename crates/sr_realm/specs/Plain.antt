@@ -1,6 +1,9 @@
 -- Where names are bound and what they come to, as the definitions have it.
 use Rattle.sr_value.specs.Plain.{number_of, value_of}
 use Rattle.sr_model.specs.Names as model
+use Rattle.sr_realm.specs.declared.accepting.Acceptance.{Acceptance}
+use Rattle.sr_realm.specs.declared.accepting.Acceptance.TheVariants as acceptance
+use Rattle.sr_realm.specs.declared.accepting.Declarations.{Declarations}
 use Rattle.sr_realm.specs.declared.names.Base.{Base}
 use Rattle.sr_realm.specs.declared.names.Base.TheVariants as base
 use Rattle.sr_realm.specs.declared.names.Known.{Known}
@@ -30,3 +33,12 @@ write_of write.TooEarly = model.TooEarly
 write_of write.Fixed = model.Fixed
 write_of write.Unbound = model.Unbound
 write_of write.Rejected = model.Rejected
+
+-- the names that a script declares, and what comes of them
+abbrev pub declarations_of : Declarations → model.Declarations
+declarations_of d = record { vars = d.vars.now; lexical = d.lexical.now }
+
+abbrev pub acceptance_of : Acceptance → model.Acceptance
+acceptance_of acceptance.Accepted = model.Accepted
+acceptance_of acceptance.Clash = model.Clash
+acceptance_of acceptance.Closed = model.Closed

@@ -40,6 +40,13 @@ pub fn syntax_message(alloc: Global, at: usize) -> Result<Str, AllocError>
     letters(alloc, &message)
 }
 
+/// The message of the error of a script of which a name clashes with what is declared already.
+pub fn clash_message(alloc: Global) -> Result<Str, AllocError>
+    ensures { IfOk result (λ message. (let e = spec.declaration_error in message ≡ e.message)) }
+{
+    letters(alloc, "syntax error")
+}
+
 /// The message of the error of a name that is nowhere bound.
 pub fn undefined_message(alloc: Global, name: &Str) -> Result<Str, AllocError>
     ensures { IfOk result (λ message. (let e = spec.not_defined name.now in message ≡ e.message)) }

@@ -11,14 +11,17 @@ mod errors;
 mod names;
 /// What is told of objects.
 mod reports;
+/// Environments of blocks, of turns of loops and of `catch`.
+mod scopes;
 /// Writes of names.
 mod writes;
 
-pub use accepting::accept;
+pub use accepting::{Acceptance, Accepted, Declarations, accept};
 pub use errors::{
-    constant_message, make_error, syntax_message, type_message, undefined_message,
+    clash_message, constant_message, make_error, syntax_message, type_message, undefined_message,
     uninitialized_message,
 };
 pub use names::{Base, Known, Write, base_of_name, value_at, value_of_name};
 pub use reports::object_report;
+pub use scopes::{initialize, make_catch_scope, make_scope, make_turn};
 pub use writes::write_name;

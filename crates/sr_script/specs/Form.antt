@@ -114,6 +114,8 @@ module _ (names : Names) where
   node_fits (layer.Do body test) = body.1 && test.1
   node_fits (layer.While test body) = test.1 && body.1
   node_fits (layer.For first test update body) = fits_if_there first && fits_if_there test && fits_if_there update && body.1
+  node_fits (layer.Throw a) = a.1
+  node_fits layer.Debugger = true
   node_fits l = false
 
   abbrev pub declaration_fits : Declaration-F (Fits Element) (Fits Node) (Fits Property) (Fits Case) (Fits Declaration) (Fits Tree) → Bool

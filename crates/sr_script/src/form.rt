@@ -167,9 +167,11 @@ fn node_fits(names: &Names, node: &Node) -> bool
             is_built(*op) && fits(names, left.get()) && fits(names, right.get())
         }
         Node::Unary(op, operand) => is_prefix_built(*op) && fits(names, operand.get()),
-        Node::Null | Node::Bool(_) | Node::Num(_) | Node::Text(_) | Node::Empty => true,
+        Node::Null | Node::Bool(_) | Node::Num(_) | Node::Text(_) => true,
+        Node::Empty | Node::Debugger => true,
         Node::Expression(inner) => fits(names, inner.get()),
         Node::Directive(inner) => fits(names, inner.get()),
+        Node::Throw(value) => fits(names, value.get()),
         Node::Var(declarations) => all_declared(names, declarations.as_slice()),
         Node::Block(statements) => all_fit(names, statements.as_slice()),
         Node::If(test, yes, no) => {

@@ -1,11 +1,12 @@
 -- How errors are thrown, and how scripts go on with names.
-use Rattle.std.specs.Prelude.{Result, Ok, Err}
+use Rattle.std.specs.Prelude.{List, [], ◌∷◌, Result, Ok, Err}
 use Rattle.sr_model.specs.Values.{Text, Value, Simple, Undefined, Object}
 use Rattle.sr_model.specs.Outcomes.{Abrupt, Throw}
 use Rattle.sr_model.specs.Scripts.{Give, Look, Change}
 use Rattle.sr_model.specs.Tasks.{Context}
-use Rattle.sr_model.specs.Holds.{storing, store_in, next_object}
-use Rattle.sr_model.specs.Names.{Base, base_of, Known, Has, Getter, NoValue, NotBound, value_at, value_of_name, Write, Written, Setter, TooEarly, Fixed, Unbound, Rejected, write_answer, write}
+use Rattle.sr_model.specs.Holds.{storing, store_in, next_object, next_environment}
+use Rattle.sr_model.specs.Environments.{Binding}
+use Rattle.sr_model.specs.Names.{Base, base_of, Known, Has, Getter, NoValue, NotBound, value_at, value_of_name, Write, Written, Setter, TooEarly, Fixed, Unbound, Rejected, write_answer, write, initialize, with_scope}
 use Rattle.sr_realm.specs.Errors.{ErrorParts, with_error, not_defined, not_initialized, is_constant, type_error}
 use Rattle.sr_state.specs.Work.{Steps}
 
@@ -44,7 +45,18 @@ write_or_failure x Fixed = Err (Raises (is_constant x))
 write_or_failure x Unbound = Err (Raises (not_defined x))
 write_or_failure x Rejected = Err (Raises type_error)
 
+-- a name that is bound there gets its first value
+abbrev pub initialize_there : Base → Text → Binding → Steps → Steps
+initialize_there b x w k = Look (λ r. Change (storing (initialize (store_in r) b x w)) k)
+
 module _ (c : Context) where
+  -- goes on in an environment inside that of the context, in which these names have no value yet. Where there are none it goes on as it is,
+  -- since no name would be found in such an environment
+  abbrev pub in_scope : List Text → (Context → Steps) → Steps
+  in_scope [] k = k c
+  in_scope (x ∷ xs) k =
+      Look (λ r. Change (storing (with_scope c.environment (x ∷ xs) (store_in r))) (k (record c { environment = next_environment r })))
+
   -- 9.1.2.1: where a name is bound
   abbrev pub based : Text → (Base → Steps) → Steps
   based x k = Look (λ r. k (base_of (store_in r) c.environment x))

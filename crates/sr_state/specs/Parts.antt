@@ -1,5 +1,5 @@
 -- What the calls that all rows use leave of a step.
-use Rattle.std.specs.Prelude.{◌≡◌, ◌⊎◌, ◌++◌, ◌/◌, ℕ, suc, true, false, nat_le, [], length, Option, None, Some, Result, Ok, Err}
+use Rattle.std.specs.Prelude.{◌≡◌, ◌⊎◌, ◌++◌, ◌/◌, ℕ, suc, true, false, nat_le, List, [], ◌∷◌, length, Option, None, Some, Result, Ok, Err}
 use Rattle.sr_ast.specs.declared.tree.Tree.{Tree}
 use Rattle.sr_value.specs.declared.value.Value.{Value}
 use Rattle.sr_value.specs.declared.value.Value.TheVariants as value
@@ -8,7 +8,10 @@ use Rattle.sr_model.specs.Outcomes.{Stop}
 use Rattle.sr_model.specs.World.{may_enter}
 use Rattle.sr_conv.specs.Plain.{value_of, option_of}
 use Rattle.sr_conv.specs.Operators.{Operated, Gives, Joins, Halts, Rejects}
-use Rattle.sr_model.specs.Holds.{next_object}
+use Rattle.sr_tag.specs.Reference.{Reference}
+use Rattle.sr_value.specs.Plain.{number_of}
+use Rattle.sr_heap.specs.Plain.{scope_of}
+use Rattle.sr_model.specs.Holds.{next_object, next_environment}
 use Rattle.sr_realm.specs.Errors.{ErrorParts, with_error, type_error}
 use Rattle.sr_intrin.specs.declared.names.BuiltIn.{BuiltIn}
 use Rattle.sr_state.specs.declared.frame.Frame.{Frame}
@@ -23,12 +26,12 @@ use Rattle.sr_state.specs.declared.ends.Next.TheVariants as next
 use Rattle.sr_state.specs.declared.ends.Over.{Over}
 use Rattle.sr_state.specs.declared.ends.Over.TheVariants as over
 use Rattle.sr_state.specs.declared.ends.StopName.TheVariants as stop
-use Rattle.sr_model.specs.Names.{Known, Write, write, write_answer}
+use Rattle.sr_model.specs.Names.{Known, Write, write, write_answer, with_scope}
 use Rattle.sr_realm.specs.Plain as plain
 use Rattle.sr_state.specs.Errors.{Raises, NotBuilt, value_or_failure, write_or_failure}
 use Rattle.sr_state.specs.Contexts.{context_of}
 use Rattle.sr_state.specs.Ends.{HaltsBy}
-use Rattle.sr_state.specs.Held.{Held, Side, fresh_frame, no_source, store_as, stored_in, realm_in, pay_in, begun_in, room_in, cut_in, with_side, answered, staged, keeping, topped, deeper, above}
+use Rattle.sr_state.specs.Held.{Held, Side, fresh_frame, no_source, store_as, stored_in, realm_in, pay_in, begun_in, room_in, cut_in, with_side, answered, staged, keeping, placed, topped, deeper, above}
 use Rattle.sr_state.specs.Step.{Operand, operand_of, tree_now}
 use Rattle.sr_state.specs.Trees.{value_in, text_in, text_limit, text_cost}
 
@@ -147,6 +150,15 @@ Uses x k old (Err (over.Next n)) new =
     ((e : ErrorParts) × (value_or_failure x k ≡ Err (Raises e)) × Throws e old n new)
     ⊎ ((value_or_failure x k ≡ Err NotBuilt) × EndsWith no_error old n new)
 Uses x k old (Err over.Memory) new = Unit {0}
+
+-- the frame on top goes on in an environment inside that of its context, in which these names have no value yet; where there are none it
+-- stays in its own
+abbrev pub EntersScope : List model.Text → Held → Held → Type 0
+EntersScope [] old new = new ≡ old
+EntersScope (x ∷ xs) old new =
+    (let f = old.top in let c = f.context in
+    (r : Reference) × (number_of r ≡ next_environment (realm_in old.side))
+    × (new ≡ placed (record c { environment = Some r }) (with_side old (store_as (with_scope (scope_of c.environment) (x ∷ xs) (stored_in old.side)) old.side))))
 
 -- a name took a value; or the frame on top ended, since it takes none
 abbrev pub Checks : model.Text → Write → Held → Result (Unit {0}) Over → Held → Type 0

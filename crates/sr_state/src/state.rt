@@ -2,19 +2,18 @@ ghost use Rattle.std.specs.Prelude.{◌≡◌, ◌≤◌, ◌<◌, ◌∷◌, �
 ghost use Rattle.std.specs.List.{AllByRecursion};
 ghost use Rattle.sr_value.specs.Live.{IsLiveScope, IsLiveValue, KeepsLiveValues};
 ghost use Rattle.sr_value.specs.Plain.{value_of};
-ghost use Rattle.sr_heap.specs.Live.{extent};
-ghost use Rattle.sr_heap.specs.Plain.{scope_of};
+ghost use Rattle.sr_heap.specs.Live.{IsLiveBinding, extent};
+ghost use Rattle.sr_heap.specs.Plain.{binding_of, scope_of};
 ghost use Rattle.sr_intrin.specs.Numbers.{intrinsic_count};
 ghost use Rattle.sr_model.specs.Values.{Object};
-ghost use Rattle.sr_model.specs.Names.{accepted};
 ghost use Rattle.sr_model.specs.Names as names;
 ghost use Rattle.sr_model.specs.Holds.{next_object, next_source};
 ghost use Rattle.sr_realm.specs.Errors.{with_error};
 ghost use Rattle.sr_realm.specs.Live.{IsLiveBase, IsLiveKnown, IsLiveWrite};
-ghost use Rattle.sr_realm.specs.Plain.{base_of, known_of, write_of};
+ghost use Rattle.sr_realm.specs.Plain.{acceptance_of, base_of, declarations_of, known_of, write_of};
 ghost use Rattle.sr_state.specs.Kept.{own_of};
 ghost use Rattle.sr_state.specs.Live.{IsLiveAnswer, IsLiveFrame, IsSound};
-ghost use Rattle.sr_state.specs.Parts.{Spends};
+ghost use Rattle.sr_state.specs.Parts.{EntersScope, Spends};
 ghost use Rattle.sr_state.specs.Held.{first, first_tag, fresh_frame, fresh_own, pay_in, begun_in, idle, with_side, line_in, realm_in, stored_in, extent_in, store_as, cut_in, answered, topped, staged, keeping, basing, listing, placed, deeper, above, below, is_idle};
 
 use crate::ends::{Answer, Next, StopName};
@@ -22,10 +21,11 @@ use crate::frame::{Activity, Context, Frame};
 use crate::realm::Link;
 use sqlite_items::Items;
 use sr_ast::Code;
-use sr_heap::Heap;
+use sr_heap::{Binding, Heap};
 use sr_intrin::{BuiltIn, ErrorName, build};
 use sr_realm::{
-    Base, Known, Write, accept, base_of_name, make_error, value_at, value_of_name, write_name,
+    Accepted, Base, Declarations, Known, Write, accept, base_of_name, initialize, make_error,
+    make_scope, value_at, value_of_name, write_name,
 };
 use sr_tag::{Path, Tag};
 use sr_text::Str;
@@ -212,13 +212,45 @@ impl State {
         )
     }
 
-    /// Accepts a source with this text that declares these names by `var`, and answers its number.
-    pub fn accept(&mut self, names: &[Str], text: Str) -> Result<u32, AllocError>
-        ensures number { IfOk result (λ n. n ≡ next_source (realm_in self.old.side)) }
-        ensures accepted { OnOk result (self.new ≡ with_side self.old (store_as (accepted names.now text (stored_in self.old.side)) self.old.side)) }
+    /// Gives a name that is bound where the frame on top keeps it, and has no value yet, its first value (ECMA-262 6.2.5.8
+    /// InitializeReferencedBinding).
+    pub fn initialize(&mut self, name: &Str, binding: Binding)
+        requires { IsLiveBinding (extent_in self.old.side) binding }
+        ensures after { self.new ≡ with_side self.old (store_as (names.initialize (stored_in self.old.side) (base_of self.old.top.base) name.now (binding_of binding)) self.old.side) }
         ensures kept { extent_in self.new.side ≡ extent_in self.old.side }
     {
-        accept(&mut self.here.heap, names, text)
+        initialize(&mut self.here.heap, &self.top.base, name, binding);
+    }
+
+    /// The frame on top goes on in an environment inside its own, in which these names have no value yet (ECMA-262 14.2.3
+    /// BlockDeclarationInstantiation); where there are no names it stays where it is.
+    pub fn enter_scope(&mut self, names: &[Str]) -> Result<(), AllocError>
+        ensures { OnOk result (EntersScope names.now self.old self.new) }
+    {
+        match names {
+            [] => Ok(()),
+            [_, ..] => {
+                let outer = self.top.context.environment;
+                let scope = make_scope(&mut self.here.heap, outer, names)?;
+                self.top.context.environment = Some(scope);
+                Ok(())
+            }
+        }
+    }
+
+    /// Keeps the source of a script with this text, declares its names where nothing hinders it (ECMA-262 16.1.7), and answers its
+    /// number and what comes of the names.
+    pub fn accept(
+        &mut self,
+        declarations: Declarations<'_>,
+        text: Str,
+    ) -> Result<Accepted, AllocError>
+        ensures number { IfOk result (λ a. a.number ≡ next_source (realm_in self.old.side)) }
+        ensures acceptance { IfOk result (λ a. acceptance_of a.acceptance ≡ names.accept_answer (declarations_of declarations.entry) (names.with_source text (stored_in self.old.side))) }
+        ensures after { OnOk result (self.new ≡ with_side self.old (store_as (names.accepted (declarations_of declarations.entry) text (stored_in self.old.side)) self.old.side)) }
+        ensures kept { extent_in self.new.side ≡ extent_in self.old.side }
+    {
+        accept(&mut self.here.heap, declarations, text)
     }
 
     /// Makes an error object, and answers its value (ECMA-262 20.5.1.1).

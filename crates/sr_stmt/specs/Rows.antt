@@ -10,14 +10,14 @@ use Rattle.sr_ast.specs.declared.reading.Reading.TheVariants as reading
 use Rattle.sr_ast.specs.declared.reading.SourceCode.{SourceCode}
 use Rattle.sr_ast.specs.declared.refused.Refused.TheVariants as refused
 use Rattle.sr_model.specs.Values.{Text, Value, Simple, Undefined}
-use Rattle.sr_model.specs.Outcomes.{Normal, Unsupported, SyntaxDepth}
+use Rattle.sr_model.specs.Outcomes.{Normal, Abrupt, Throw, Unsupported, SyntaxDepth}
 use Rattle.sr_model.specs.Tasks.{Context, Run, Operate}
 use Rattle.sr_model.specs.Scripts.{Give, Halt, Look, Change, Become, Pay, pay}
 use Rattle.sr_model.specs.Holds.{either, next_source, store_in, storing}
-use Rattle.sr_model.specs.Names.{Base, accepted}
+use Rattle.sr_model.specs.Names.{Base, Declarations, Acceptance, Accepted, Clash, Closed, accept_answer, with_source, accepted}
 use Rattle.sr_conv.specs.Conversions.{to_boolean}
 use Rattle.sr_state.specs.Work.{Steps, Place, Test, Body, Update, Loop, Operation, Repeat}
-use Rattle.sr_realm.specs.Errors.{syntax_error}
+use Rattle.sr_realm.specs.Errors.{syntax_error, declaration_error, type_error}
 use Rattle.sr_state.specs.Errors.{based, put_there, throw_new}
 use Rattle.sr_state.specs.Trees.{value_in, give_value, begin, evaluated, valued}
 
@@ -99,6 +99,13 @@ module _ (c : Context) where
   abbrev pub choice : ℕ → Tree → Tree → Option Tree → Steps
   choice at test a b = begin c at (valued c test (chosen a b))
 
+  -- 14.14: the value is thrown
+  abbrev pub throw_value : Value → Steps
+  throw_value v = Give (Abrupt (Throw v))
+
+  abbrev pub throw : ℕ → Tree → Steps
+  throw at t = begin c at (valued c t throw_value)
+
   -- 14.7.2 to 14.7.4: a loop that is at a place, with the value so far. After a turn it goes on as a task of its own
   abbrev pub again : Loop → Place → Value → Steps
   again l place v = Become (Operate (Repeat c l place v))
@@ -148,9 +155,12 @@ is_statement (layer.If c a b) = true
 is_statement (layer.Do body test) = true
 is_statement (layer.While test body) = true
 is_statement (layer.For first test update body) = true
+is_statement (layer.Throw t) = true
+is_statement layer.Debugger = true
 is_statement l = false
 
--- the table of the statements, by kind. A directive is evaluated as any expression (14.5). What is no statement that is built has no row
+-- the table of the statements, by kind. A directive is evaluated as any expression (14.5), and without a debugger `debugger` does nothing
+-- (14.16). What is no statement that is built has no row
 -- here
 abbrev pub statement : Context → ℕ → Layer → Steps
 statement c at (layer.Expression t) = expression c at t
@@ -162,16 +172,29 @@ statement c at (layer.If test a b) = choice c at test a b
 statement c at (layer.Do body test) = do_loop c at body test
 statement c at (layer.While test body) = while_loop c at test body
 statement c at (layer.For first test update body) = for_loop c at first (record { test = test; update = update; body = body })
+statement c at (layer.Throw t) = throw c at t
+statement c at layer.Debugger = empty c at
 statement c at l = empty c at
 
 -- where the statements of a script are evaluated. A script that is built has no directives, so its code is not strict
 abbrev pub script_context : ℕ → Context
 script_context source = record { source = source; environment = 0; strict = false }
 
--- 16.1.7: the names are declared, and the statements evaluated
+-- the names that a script declares. One that is built declares none by `let` or `const`
+abbrev pub declarations : Script → Declarations
+declarations x = record { vars = x.names; lexical = [] }
+
+-- 16.1.7: the names are declared, and the statements evaluated; or a name clashes with what is declared already, or the global object
+-- takes no property more
+abbrev pub evaluate : Script → Context → Acceptance → Steps
+evaluate x c Accepted = statements c x.body None
+evaluate x c Clash = throw_new declaration_error
+evaluate x c Closed = throw_new type_error
+
 abbrev pub accept : Text → Script → Steps
 accept text x =
-    Look (λ r. Change (storing (accepted x.names text (store_in r))) (statements (script_context (next_source r)) x.body None))
+    Look (λ r. let s = store_in r in
+    Change (storing (accepted (declarations x) text s)) (evaluate x (script_context (next_source r)) (accept_answer (declarations x) (with_source text s))))
 
 -- 16.1.6: a text that is no script ends by a SyntaxError, or by a stop
 abbrev pub read_text : Text → Reading → Steps

@@ -20,7 +20,7 @@ use Rattle.sr_state.specs.declared.ends.Next.{Next}
 use Rattle.sr_state.specs.Held.{Held}
 use Rattle.sr_state.specs.Step.{Given, At, StepsWith}
 use Rattle.sr_state.specs.Trees.{value_in, give_value, throw_error, begin, evaluated_at, valued_at, paid_at}
-use Rattle.sr_stmt.specs.Rows.{updated, put_then, anyway, at_test, tree_or, plain_loop, expression, declare, variables, statements, block, empty, chosen, choice, again, turned, tested, loop, for_first, read_text, operation, source}
+use Rattle.sr_stmt.specs.Rows.{updated, put_then, anyway, at_test, tree_or, plain_loop, expression, declare, variables, statements, block, empty, throw_value, throw, chosen, choice, again, turned, tested, loop, for_first, read_text, operation, source}
 
 -- the declarations that are left, of which the first has a value and is under way
 abbrev pub declare_one_at : Context → Given → Base → Text → Option Tree → Steps → Steps
@@ -67,6 +67,10 @@ module _ (at : ℕ) where
   empty_at s zero kept g = empty s at
   empty_at s (suc n) kept g = throw_error
 
+  abbrev pub throw_at : Tree → At
+  throw_at t s zero kept g = throw s at t
+  throw_at t s (suc n) kept g = valued_at s g t (throw_value s)
+
   abbrev pub choice_at : Tree → Tree → Option Tree → At
   choice_at c a b s zero kept g = choice s at c a b
   choice_at c a b s (suc zero) kept g = valued_at s g c (chosen s a b)
@@ -96,6 +100,8 @@ module _ (at : ℕ) where
   layer_at (layer.Do body test) = while_at true test body
   layer_at (layer.While test body) = while_at false test body
   layer_at (layer.For first test update body) = loop_at false first (record { test = test; update = update; body = body })
+  layer_at (layer.Throw t) = throw_at t
+  layer_at layer.Debugger = empty_at
   layer_at l = empty_at
 
 abbrev pub statement_at : Tree → At

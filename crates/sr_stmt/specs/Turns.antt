@@ -12,11 +12,11 @@ use Rattle.sr_value.specs.declared.value.Value.{Value}
 use Rattle.sr_model.specs.Outcomes.{Normal}
 use Rattle.sr_model.specs.Scripts.{Give}
 use Rattle.sr_model.specs.Holds.{next_source}
-use Rattle.sr_model.specs.Names.{accepted, base_of}
+use Rattle.sr_model.specs.Names.{Acceptance, Accepted, Clash, Closed, accept_answer, with_source, accepted, base_of}
 use Rattle.sr_model.specs.Tasks.{Context}
 use Rattle.sr_realm.specs.declared.names.Base as code
 use Rattle.sr_realm.specs.Plain as plain
-use Rattle.sr_realm.specs.Errors.{syntax_error}
+use Rattle.sr_realm.specs.Errors.{syntax_error, declaration_error, type_error}
 use Rattle.sr_state.specs.Contexts.{context_of}
 use Rattle.sr_state.specs.Work.{Loop}
 use Rattle.sr_state.specs.declared.ends.Completion.TheVariants as completion
@@ -31,7 +31,7 @@ use Rattle.sr_state.specs.Parts.{Resumes, BeginsPart, EndsWith, Throws}
 use Rattle.sr_state.specs.Step.{At}
 use Rattle.sr_stmt.specs.declared.loops.Looping.{Looping}
 use Rattle.sr_stmt.specs.declared.variables.Initializer.{Initializer}
-use Rattle.sr_stmt.specs.Rows.{declare}
+use Rattle.sr_stmt.specs.Rows.{declare, declarations}
 use Rattle.sr_stmt.specs.Stages.{loop_at}
 
 -- the parts of a loop, and what a frame of it stands for
@@ -87,15 +87,23 @@ begins (Some v) old n new =
 abbrev pub BeginsValue : ℕ → List Declaration → Held → Next → Held → Type 0
 BeginsValue from ds old n new = (let f = old.top in (found : Option Initializer) × IsNext (context_of f.context) from ds found × begins found old n new)
 
--- after a script is accepted
+-- after the source of a script is kept, with its names where nothing hinders it
 abbrev pub accepted_in : List ℕ → Script → Held → Held
-accepted_in text x h =
-    placed (record { source = next_source (realm_in h.side); strict = false; environment = None })
-    (with_side h (store_as (accepted x.names text (stored_in h.side)) h.side))
+accepted_in text x h = with_side h (store_as (accepted (declarations x) text (stored_in h.side)) h.side)
 
--- a script is accepted, and its first statement is next
+-- and what comes of its names
+abbrev pub acceptance_in : List ℕ → Script → Held → Acceptance
+acceptance_in text x h = accept_answer (declarations x) (with_source text (stored_in h.side))
+
+-- its first statement is next, in the context of the script; or an error is thrown
+abbrev pub Evaluates : ℕ → Script → Acceptance → Held → Next → Held → Type 0
+Evaluates source x Accepted old n new =
+    (first : Option Tree) × Here 0 x.body first × Continues 2 first (keeping None (placed (record { source = source; strict = false; environment = None }) old)) n new
+Evaluates source x Clash old n new = Throws declaration_error old n new
+Evaluates source x Closed old n new = Throws type_error old n new
+
 abbrev pub Accepts : List ℕ → Script → Held → Next → Held → Type 0
-Accepts text x old n new = (first : Option Tree) × Here 0 x.body first × Continues 2 first (keeping None (accepted_in text x old)) n new
+Accepts text x old n new = Evaluates (next_source (realm_in old.side)) x (acceptance_in text x old) (accepted_in text x old) n new
 
 -- what is no script ends by a SyntaxError or by a stop
 abbrev pub Refuses : Refused → Held → Next → Held → Type 0

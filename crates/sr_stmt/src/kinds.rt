@@ -8,7 +8,7 @@ ghost use Rattle.sr_stmt.specs.Stages.{StepsOn, statement_at};
 
 use crate::lists::block;
 use crate::loops::{Looping, turn, while_loop};
-use crate::simple::{choice, empty, expression};
+use crate::simple::{choice, empty, expression, throw};
 use crate::variables::variables;
 use sr_ast::{Node, Tree};
 use sr_state::{Next, Over, State};
@@ -37,7 +37,8 @@ fn statement(state: &mut State, tree: &Tree) -> Result<Next, Over>
             };
             turn(state, looping)
         }
-        Node::Empty => empty(state, at),
+        Node::Throw(part) => throw(state, at, part),
+        Node::Empty | Node::Debugger => empty(state, at),
         _ => empty(state, at),
     }
 }
@@ -65,7 +66,9 @@ pub fn is_statement(node: &Node) -> bool
         | Node::If(_, _, _)
         | Node::Do(_, _)
         | Node::While(_, _)
-        | Node::For(_, _, _, _) => true,
+        | Node::For(_, _, _, _)
+        | Node::Throw(_)
+        | Node::Debugger => true,
         _ => false,
     }
 }

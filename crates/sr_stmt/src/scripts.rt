@@ -5,12 +5,13 @@ ghost use Rattle.sr_state.specs.Lists.{Here};
 ghost use Rattle.sr_state.specs.Step.{StepsAnywhere};
 ghost use Rattle.sr_stmt.specs.Rows.{operation};
 ghost use Rattle.sr_stmt.specs.Stages.{source_at};
-ghost use Rattle.sr_stmt.specs.Turns.{Accepts, Refuses, Reads};
+ghost use Rattle.sr_stmt.specs.Turns.{Accepts, Evaluates, Refuses, Reads};
+ghost use Rattle.sr_realm.specs.Plain.{acceptance_of};
 
 use crate::lists::{begin_statement, statement};
 use sr_ast::{Reading, Refused, ScriptCode, Tree};
 use sr_intrin::ErrorName;
-use sr_realm::syntax_message;
+use sr_realm::{Acceptance, Accepted, Declarations, clash_message, syntax_message};
 use sr_shared::Shared;
 use sr_state::{Context, Next, Over, Source, State, StopName, after, before, string_cost};
 use sr_text::Str;
@@ -24,18 +25,38 @@ fn statement_here(script: &ScriptCode, at: u32) -> Option<&Shared<Tree>>
     script.statement(at as usize)
 }
 
+/// After the names of a script were judged: its first statement is next, or an error is thrown.
+fn evaluate(state: &mut State, script: &ScriptCode, accepted: Accepted) -> Result<Next, Over>
+    ensures { Comes result (λ next. Evaluates accepted.number script.now (acceptance_of accepted.acceptance) state.old next state.new) }
+{
+    match accepted.acceptance {
+        Acceptance::Accepted => {
+            state.set_context(Context {
+                source: accepted.number,
+                strict: false,
+                environment: None,
+            });
+            state.take_kept();
+            begin_statement(state, 2, statement_here(script, 0))
+        }
+        Acceptance::Clash => {
+            let clash = clash_message(state.alloc())?;
+            Ok(state.throw_error(ErrorName::Syntax, clash)?)
+        }
+        Acceptance::Closed => Ok(state.throw_type_error()?),
+    }
+}
+
 /// Accepts a script: its names are declared, and its first statement is next (ECMA-262 16.1.7).
 fn accept(state: &mut State, text: &Str, script: &ScriptCode) -> Result<Next, Over>
     ensures { Comes result (λ next. Accepts text.now script.now state.old next state.new) }
 {
-    let source = state.accept(script.names(), text.clone()?)?;
-    state.set_context(Context {
-        source,
-        strict: false,
-        environment: None,
-    });
-    state.take_kept();
-    begin_statement(state, 2, statement_here(script, 0))
+    let declarations = Declarations {
+        vars: script.names(),
+        lexical: &[],
+    };
+    let accepted = state.accept(declarations, text.clone()?)?;
+    evaluate(state, script, accepted)
 }
 
 /// Ends by a SyntaxError or by a stop.

@@ -1,11 +1,11 @@
 ghost use Rattle.std.specs.Option.{option_copied};
 ghost use Rattle.sr_state.specs.Ends.{Comes};
-ghost use Rattle.sr_stmt.specs.Stages.{StepsOn, expression_at, empty_at, choice_at};
+ghost use Rattle.sr_stmt.specs.Stages.{StepsOn, expression_at, empty_at, throw_at, choice_at};
 
 use sr_ast::Tree;
 use sr_conv::to_boolean;
 use sr_shared::Shared;
-use sr_state::{Completion, Next, Over, State};
+use sr_state::{Abrupt, Completion, Next, Over, State};
 use sr_value::Value;
 
 /// An expression as a statement (ECMA-262 14.5): after its charge the frame goes on as that of the expression.
@@ -31,6 +31,19 @@ pub fn empty(state: &mut State, at: usize) -> Result<Next, Over>
             Ok(state.end(Completion::Normal(None)))
         }
         _ => Ok(state.throw()),
+    }
+}
+
+/// `throw` (ECMA-262 14.14).
+pub fn throw(state: &mut State, at: usize, part: &Shared<Tree>) -> Result<Next, Over>
+    ensures { Comes result (λ next. StepsOn (throw_at at part.now) state.old next state.new) }
+{
+    match state.stage() {
+        0 => state.begin_with(at, part),
+        _ => {
+            let value = state.resume_value(part)?;
+            Ok(state.end(Completion::Abrupt(Abrupt::Throw(value))))
+        }
     }
 }
 

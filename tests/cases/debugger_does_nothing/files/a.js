@@ -1,0 +1,2 @@
+print("a"); debugger
+print("b"); if (true) debugger; else print("c");

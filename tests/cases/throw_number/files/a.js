@@ -1,0 +1,1 @@
+for (var i = 0; ; i++) { print(i); if (i == 2) throw i - 2; }

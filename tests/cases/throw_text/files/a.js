@@ -1,0 +1,1 @@
+print(1); throw "t" + 2; print(3);

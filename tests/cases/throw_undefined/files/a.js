@@ -1,0 +1,1 @@
+if (true) throw undefined; else print("no");
