@@ -7,7 +7,7 @@ use Rattle.sr_ast.specs.declared.reading.SourceCode.{SourceCode}
 use Rattle.sr_model.specs.Values.{Text, Value}
 use Rattle.sr_model.specs.Outcomes.{Normal}
 use Rattle.sr_model.specs.Events.{Message, Source, Evaluate, Import, Call, Settle, Turn}
-use Rattle.sr_model.specs.Tasks.{Context, Run, Apply, Construct, Perform, Convert, Operate, Read}
+use Rattle.sr_model.specs.Tasks.{Context, Run, RunLabelled, Apply, Construct, Perform, Convert, Operate, Read}
 use Rattle.sr_model.specs.Tasks as tasks
 use Rattle.sr_model.specs.Scripts.{Give, Language}
 use Rattle.sr_model.specs.Realm.{Realm}
@@ -55,6 +55,7 @@ module _ (read : Text → Reading) where
   row (Construct f args target) = nothing
   row (Convert to v) = nothing
   row (Read goal text) = nothing
+  row (RunLabelled c labels t) = nothing
 
   -- the language
   abbrev pub language : Language Work Holds
